@@ -1,0 +1,75 @@
+// The public face: every call over a whole lent image, by its master header. No call asks anything of its caller.
+use master::Master;
+use region::Found;
+use region::Step;
+ghost use mathlib.Core.Path.{_≡_};
+ghost use Rattle.master.specs.Master.{master as masterOf};
+ghost use Rattle.cbfs.specs.Cbfs.{plainStep, plainFind, plainContent, nameAt, contentAt};
+
+// The region that holds the image's components, or refusals 1 to 8.
+pub fn region(image: &[u8]) -> Master
+    ensures { λ r. ⌜ r ≡ masterOf (now (image .entry)) ⌝ }
+    ensures kept { λ _. ⌜ now (image .exit) ≡ now (image .entry) ⌝ }
+{
+    master::read(image)
+}
+
+// The first component that a plain walk begun at `from` takes, or refusals 1 to 9.
+pub fn plain_step(image: &[u8], from: usize) -> Step
+    ensures { λ s. ⌜ s ≡ plainStep (now (image .entry)) from ⌝ }
+    ensures kept { λ _. ⌜ now (image .exit) ≡ now (image .entry) ⌝ }
+{
+    let m = master::read(image);
+    match m {
+        Master::Read(g) => region::plain_step(image, g, from),
+        Master::Refused(r) => Step::Refused(r),
+    }
+}
+
+// The first bearer of the name in the plain listing, or refusals 1 to 8 and 10.
+pub fn plain_find(image: &[u8], name: &[u8]) -> Found
+    ensures { λ f. ⌜ f ≡ plainFind (now (image .entry)) (now (name .entry)) ⌝ }
+    ensures kept { λ _. ⌜ (now (image .exit) ≡ now (image .entry)) × (now (name .exit) ≡ now (name .entry)) ⌝ }
+{
+    let m = master::read(image);
+    match m {
+        Master::Read(g) => region::plain_find(image, g, name),
+        Master::Refused(r) => Found::Refused(r),
+    }
+}
+
+// The content of the first bearer of the name, as a part of the image; empty on a refusal.
+pub fn plain_lookup<'a, 'b>(image: &'a [u8], name: &'b [u8]) -> &'a [u8]
+    ensures { λ r. ⌜ now r ≡ plainContent (now (image .entry)) (now (name .entry)) ⌝ }
+    ensures kept { λ _. ⌜ (now (image .exit) ≡ now (image .entry)) × (now (name .exit) ≡ now (name .entry)) ⌝ }
+{
+    let m = master::read(image);
+    match m {
+        Master::Read(g) => region::plain_lookup(image, g, name),
+        Master::Refused(_) => &image[0..0],
+    }
+}
+
+// The name of the component at a place, as a part of the image; empty where none stands there.
+pub fn name_at(image: &[u8], place: usize) -> &[u8]
+    ensures { λ r. ⌜ now r ≡ nameAt (now (image .entry)) place ⌝ }
+    ensures kept { λ _. ⌜ now (image .exit) ≡ now (image .entry) ⌝ }
+{
+    let m = master::read(image);
+    match m {
+        Master::Read(g) => region::name_at(image, g, place),
+        Master::Refused(_) => &image[0..0],
+    }
+}
+
+// The content of the component at a place, as a part of the image; empty where none stands there.
+pub fn content_at(image: &[u8], place: usize) -> &[u8]
+    ensures { λ r. ⌜ now r ≡ contentAt (now (image .entry)) place ⌝ }
+    ensures kept { λ _. ⌜ now (image .exit) ≡ now (image .entry) ⌝ }
+{
+    let m = master::read(image);
+    match m {
+        Master::Read(g) => region::content_at(image, g, place),
+        Master::Refused(_) => &image[0..0],
+    }
+}

@@ -1,0 +1,230 @@
+// The test driver: cases on standard input, an answer to each on standard output. It holds no logic of its own.
+// An operation is one function here, and one line of `answer`.
+mod input;
+mod output;
+
+use master::Master;
+use output::Out;
+use region::Found;
+use region::Step;
+use terms::Refusal;
+use walk::Taken;
+ghost use Prim.Native.Nat.{_≤_};
+
+// Standard output is gathered in `out`. How many bytes of it are in use after a case, and whether the run goes on.
+struct Turn {
+    used: usize,
+    goes_on: bool,
+}
+
+fn refused(out: &mut Out, used: usize, r: Refusal, rest: usize) -> usize
+    requires { ⌜ used ≤ 65536 ⌝ }
+    ensures { λ r. ⌜ r ≤ 65536 ⌝ }
+{
+    let mut at = output::word(out, used, b"refused");
+    at = output::number(out, at, r.number as usize);
+    at = output::number(out, at, r.place);
+    at = output::number(out, at, rest);
+    output::line_end(out, at)
+}
+
+// The line of a component, up to its content.
+fn component(out: &mut Out, used: usize, word: &[u8], image: &[u8], t: Taken) -> usize
+    requires { ⌜ used ≤ 65536 ⌝ }
+    ensures { λ r. ⌜ r ≤ 65536 ⌝ }
+{
+    let h = t.header;
+    let mut at = output::word(out, used, word);
+    at = output::number(out, at, t.place);
+    at = output::number(out, at, h.kind as usize);
+    at = output::bytes(out, at, cbfs::name_at(image, t.place));
+    output::bytes(out, at, cbfs::content_at(image, t.place))
+}
+
+// Operation m: the master header.
+fn master_header(out: &mut Out, used: usize, image: &[u8]) -> usize
+    requires { ⌜ used ≤ 65536 ⌝ }
+    ensures { λ r. ⌜ r ≤ 65536 ⌝ }
+{
+    let m = cbfs::region(image);
+    match m {
+        Master::Read(r) => {
+            let mut at = output::word(out, used, b"region");
+            at = output::number(out, at, r.start);
+            at = output::number(out, at, r.end);
+            at = output::number(out, at, r.align);
+            output::line_end(out, at)
+        }
+        Master::Refused(r) => refused(out, used, r, 0),
+    }
+}
+
+// The plain steps from a number. An image has fewer components than bytes, so the bound on the count is never met.
+fn plain_steps(out: &mut Out, used: usize, image: &[u8], start: usize) -> usize
+    requires { ⌜ used ≤ 65536 ⌝ }
+    ensures { λ r. ⌜ r ≤ 65536 ⌝ }
+{
+    let mut at = used;
+    let mut from = start;
+    let mut count = 0;
+    while count < image.len() {
+        let s = cbfs::plain_step(image, from);
+        match s {
+            Step::Took(t) => {
+                at = component(out, at, b"component", image, t);
+                at = output::line_end(out, at);
+                from = t.next;
+                count += 1;
+            }
+            Step::NoneLeft => {
+                break;
+            }
+            Step::Refused(r) => {
+                return refused(out, at, r, 0);
+            }
+        }
+    }
+    at = output::word(out, at, b"end");
+    at = output::number(out, at, count);
+    output::line_end(out, at)
+}
+
+// Operation p: the listing by the plain steps.
+fn plain_listing(out: &mut Out, used: usize, image: &[u8]) -> usize
+    requires { ⌜ used ≤ 65536 ⌝ }
+    ensures { λ r. ⌜ r ≤ 65536 ⌝ }
+{
+    let m = cbfs::region(image);
+    match m {
+        Master::Read(r) => plain_steps(out, used, image, r.start),
+        Master::Refused(r) => refused(out, used, r, 0),
+    }
+}
+
+// Operation i: one plain step.
+fn plain_step(out: &mut Out, used: usize, image: &[u8], from: usize) -> usize
+    requires { ⌜ used ≤ 65536 ⌝ }
+    ensures { λ r. ⌜ r ≤ 65536 ⌝ }
+{
+    let s = cbfs::plain_step(image, from);
+    match s {
+        Step::Took(t) => {
+            let mut at = component(out, used, b"taken", image, t);
+            at = output::number(out, at, t.next);
+            output::line_end(out, at)
+        }
+        Step::NoneLeft => output::word(out, used, b"none\n"),
+        Step::Refused(r) => refused(out, used, r, 0),
+    }
+}
+
+// Operation l: the plain lookup.
+fn plain_lookup(out: &mut Out, used: usize, image: &[u8], name: &[u8]) -> usize
+    requires { ⌜ used ≤ 65536 ⌝ }
+    ensures { λ r. ⌜ r ≤ 65536 ⌝ }
+{
+    let content = cbfs::plain_lookup(image, name);
+    let f = cbfs::plain_find(image, name);
+    match f {
+        Found::At(t) => {
+            let h = t.header;
+            let mut at = output::word(out, used, b"found");
+            at = output::number(out, at, t.place);
+            at = output::number(out, at, h.kind as usize);
+            at = output::bytes(out, at, content);
+            output::line_end(out, at)
+        }
+        Found::Refused(r) => refused(out, used, r, rest_of(content)),
+    }
+}
+
+// The last field of a refusal: 0 where the content is empty, else 1.
+fn rest_of(content: &[u8]) -> usize {
+    if content.len() == 0 { 0 } else { 1 }
+}
+
+fn bad_case(out: &mut Out, used: usize) -> Turn
+    requires { ⌜ used ≤ 65536 ⌝ }
+    ensures { λ r. ⌜ r .used ≤ 65536 ⌝ }
+{
+    Turn {
+        used: output::word(out, used, b"bad case\n"),
+        goes_on: false,
+    }
+}
+
+fn answered(used: usize) -> Turn
+    requires { ⌜ used ≤ 65536 ⌝ }
+    ensures { λ r. ⌜ r .used ≤ 65536 ⌝ }
+{
+    Turn {
+        used,
+        goes_on: true,
+    }
+}
+
+fn answer(out: &mut Out, used: usize, op: u8, image: &[u8], name: &[u8], n: usize) -> Turn
+    requires { ⌜ used ≤ 65536 ⌝ }
+    ensures { λ r. ⌜ r .used ≤ 65536 ⌝ }
+{
+    match op {
+        b'm' => answered(master_header(out, used, image)),
+        b'p' => answered(plain_listing(out, used, image)),
+        b'i' => answered(plain_step(out, used, image, n)),
+        b'l' => answered(plain_lookup(out, used, image, name)),
+        _ => bad_case(out, used),
+    }
+}
+
+// Reads a case and answers it. An end of the input in place of an operation just ends the run.
+fn one_case(
+    out: &mut Out,
+    used: usize,
+    image: &mut [u8],
+    name: &mut [u8],
+    content: &mut [u8],
+) -> Turn
+    requires { ⌜ used ≤ 65536 ⌝ }
+    ensures { λ r. ⌜ r .used ≤ 65536 ⌝ }
+{
+    let op = input::operation();
+    if !op.whole {
+        return Turn {
+            used,
+            goes_on: false,
+        };
+    }
+    let c = input::fields(image, name, content);
+    if !c.whole {
+        return bad_case(out, used);
+    }
+    let i = c.image;
+    let k = c.name;
+    answer(out, used, op.op, &image[0..i], &name[0..k], c.number)
+}
+
+// Case after case. Nothing says that the input ends, so the turns count down from a number that no run uses up.
+fn run(out: &mut Out, image: &mut [u8], name: &mut [u8], content: &mut [u8]) -> usize
+    ensures { λ r. ⌜ r ≤ 65536 ⌝ }
+{
+    let mut used = 0;
+    let mut turns = u64::MAX;
+    while turns > 0 {
+        let t = one_case(out, used, image, name, content);
+        used = t.used;
+        if !t.goes_on {
+            break;
+        }
+        turns -= 1;
+    }
+    used
+}
+
+fn main() {
+    let mut out = [0u8; 65536];
+    let mut image = [0u8; 65536];
+    let mut name = [0u8; 1024];
+    let mut content = [0u8; 65536];
+    let used = run(&mut out, &mut image, &mut name, &mut content);
+    output::flush(&out, used);
+}

@@ -1,0 +1,261 @@
+-- Laws of the judge: how it is reached test by test, and the three by which the walks know it. What it accepts begins with the magic; its
+-- span is positive and lies in the part; and it answers the same on any part that agrees on the span.
+use Prim.Native.Nat.{ℕ, zero, suc, _+_, _-_, _%_, _≤_, _<_, min}
+use native.Mathlib.Nat.{min-le-left}
+use native.Mathlib.Omega.{arith}
+use mathlib.Core.Path.{_≡_, refl, sym, ap, subst, _∙_}
+use mathlib.Core.List.{List, [], _∷_}
+use mathlib.Core.Bool.{Bool, true, false, cond, true≢false, false≢true}
+use mathlib.Core.Option.{Option, some, none, Option·some-injective, Option·none-ne-some}
+use lib.ListN.{length, getD, take, drop, length-take, length-drop}
+use lib.Seq.{take-take, getD-take, getD-drop, ext-getD}
+use lib.Dec.{leb, eqb}
+use borrow.Author.Tests.{leb-true, le-leb, eqb-true}
+use Rattle.number.specs.Number.{be}
+use Rattle.number.proofs.Digits.{be-same}
+use Rattle.number.specs.Bytes.{partOf}
+use Rattle.number.proofs.SameBytes.{eq-length}
+use Rattle.number.proofs.Splice.{part-in}
+use Rattle.number.specs.Tests.{every}
+use Rattle.component.specs.Names.{beforeZero, nameTests, nameFits, fieldTests, fieldFits, nameLength}
+use Rattle.component.specs.Component.{magic, startsWithMagic, lenOf, kindOf, offsetOf, nameField, Component, span, componentOf, headerTests, wellFormed, fields, judge, judged, headerOf, nameOf, contentOf}
+use Rattle.component.specs.declared.Header.{Header}
+use Rattle.component.specs.declared.Judged.{Judged}
+use Rattle.component.specs.declared.Judged.the-variants.{WellFormed, IllFormed}
+use Rattle.number.proofs.Passing.{fails, passes}
+use Rattle.component.proofs.Scan.{before-take, before-le}
+
+-- The magic
+
+pub short-no-magic : (s : List ℕ) → length s < 8 → startsWithMagic s ≡ false
+unfolding startsWithMagic magic
+short-no-magic s h = eq-length _ _ (λ e. omega (arith, e, length-take 8 s))
+
+pub magic-eight : (s : List ℕ) → startsWithMagic s ≡ startsWithMagic (take 8 s)
+unfolding startsWithMagic
+magic-eight s = rw (take-take 8 8 s (omega arith))
+
+-- A fit field holds a name, and its length tells it.
+
+pub field-name : (f : List ℕ) → fieldFits f ≡ true → nameFits (beforeZero f) ≡ true
+unfolding fieldFits fieldTests
+field-name f e = passes 1 (fieldTests f (beforeZero f)) e
+
+fit-long : (n : List ℕ) → nameFits n ≡ true → 1 ≤ length n
+unfolding nameFits nameTests
+fit-long n e = leb-true 1 (length n) (passes 0 (nameTests n) e)
+
+pub length-fit : (f : List ℕ) → fieldFits f ≡ true → nameLength f ≡ length (beforeZero f)
+unfolding nameLength
+length-fit f e = rw e
+
+pub length-zero : (f : List ℕ) → nameLength f ≡ 0 → fieldFits f ≡ false
+unfolding nameLength
+length-zero f z = go (fieldFits f) refl
+  where
+    go : (b : Bool) → fieldFits f ≡ b → b ≡ false
+    go false e = refl
+    go true e = absurd (omega (arith, z, length-fit f e, fit-long (beforeZero f) (field-name f e)))
+
+pub length-pos : (f : List ℕ) (n : ℕ) → n ≡ nameLength f → (n ≡ 0 → ⊥) → fieldFits f ≡ true
+unfolding nameLength
+length-pos f n q h = go (fieldFits f) refl q
+  where
+    go : (b : Bool) → fieldFits f ≡ b → n ≡ cond b (length (beforeZero f)) 0 → fieldFits f ≡ true
+    go true e p = e
+    go false e p = absurd (h p)
+
+-- The fields, by the tests on the offset o and the length l that were read.
+
+pub fields-bad : (s : List ℕ) (o l k : ℕ) → o ≡ offsetOf s → l ≡ lenOf s → getD (headerTests s o l) k true ≡ false → IllFormed ≡ judged (fields s)
+unfolding fields wellFormed
+fields-bad s o l k eo el h = rw (← eo, ← el, fails k (headerTests s o l) h)
+
+pub fields-good : (s : List ℕ) (h : Header) → h .offset ≡ offsetOf s → h .len ≡ lenOf s → h .kind ≡ kindOf s
+    → h .named ≡ nameLength (take (h .offset - 24) (drop 24 s)) → every (headerTests s (h .offset) (h .len)) ≡ true → WellFormed h ≡ judged (fields s)
+unfolding fields wellFormed componentOf headerTests
+fields-good s h eo el ek en t =
+    let f : fieldFits (take (h .offset - 24) (drop 24 s)) ≡ true = passes 5 (headerTests s (h .offset) (h .len)) t in
+    let n : h .named ≡ length (beforeZero (take (h .offset - 24) (drop 24 s))) = en ∙ length-fit (take (h .offset - 24) (drop 24 s)) f in
+    rw (← eo, ← el, t, ← ek, ← n)
+
+-- The judge is the magic's test, then the fields.
+
+pub judge-fields : (s : List ℕ) → startsWithMagic s ≡ true → judge s ≡ fields s
+unfolding judge
+judge-fields s e = rw e
+
+pub judge-quiet : (s : List ℕ) → startsWithMagic s ≡ false → judge s ≡ none
+unfolding judge
+judge-quiet s e = rw e
+
+pub judge-short : (s : List ℕ) → length s < 8 → judge s ≡ none
+judge-short s h = judge-quiet s (short-no-magic s h)
+
+-- What a judged part is, test by test.
+pub record Formed (s : List ℕ) (c : Component) : Type 0 where
+  pub magic : startsWithMagic s ≡ true
+  pub long : 24 ≤ length s
+  pub least : 40 ≤ offsetOf s
+  pub most : offsetOf s ≤ 280
+  pub whole : (offsetOf s - 24) % 16 ≡ 0
+  pub fits : offsetOf s + lenOf s ≤ length s
+  pub named : fieldFits (nameField s) ≡ true
+  pub read : componentOf s ≡ c
+
+cond-some : {A : Type 0} (b : Bool) (x y : A) → cond b (some x) none ≡ some y → (b ≡ true) × (x ≡ y)
+cond-some true x y e = (refl, Option·some-injective _ _ e)
+cond-some false x y e = absurd (Option·none-ne-some _ e)
+
+pub formed : (s : List ℕ) (c : Component) → judge s ≡ some c → Formed s c
+unfolding judge fields wellFormed headerTests
+formed s c e = go (startsWithMagic s) refl e
+  where
+    go : (b : Bool) → startsWithMagic s ≡ b → cond b (fields s) none ≡ some c → Formed s c
+    go false m e′ = absurd (Option·none-ne-some _ e′)
+    go true m e′ =
+        let w = cond-some (wellFormed s) (componentOf s) c e′ in
+        let t : (k : ℕ) → getD (headerTests s (offsetOf s) (lenOf s)) k true ≡ true = λ k. passes k (headerTests s (offsetOf s) (lenOf s)) (w .0) in
+        record {
+          magic = m;
+          long = leb-true _ _ (t 0);
+          least = leb-true _ _ (t 1);
+          most = leb-true _ _ (t 2);
+          whole = eqb-true _ _ (t 3);
+          fits = leb-true _ _ (t 4);
+          named = t 5;
+          read = w .1;
+        }
+
+pub unformed : (s : List ℕ) (c : Component) → Formed s c → judge s ≡ some c
+unfolding judge fields wellFormed headerTests
+unformed s c f =
+    rw (f .magic, le-leb _ _ (f .long), le-leb _ _ (f .least), le-leb _ _ (f .most), f .whole, le-leb _ _ (f .fits), f .named) (ap some (f .read))
+
+-- A component has 40 bytes or more, and lies in the part.
+pub judge-fits : (s : List ℕ) (c : Component) → judge s ≡ some c → (40 ≤ c .offset) × (span c ≤ length s)
+unfolding componentOf
+judge-fits s c e =
+    let f : Formed s c = formed s c e in
+    let o : offsetOf s ≡ c .offset = ap (λ (x : Component). x .offset) (f .read) in
+    let q : offsetOf s + lenOf s ≡ span c = ap span (f .read) in
+    (omega (arith, f .least), omega (arith, f .fits))
+
+pub judge-magic : (s : List ℕ) (c : Component) → judge s ≡ some c → startsWithMagic s ≡ true
+judge-magic s c e = formed s c e .magic
+
+-- Its name is a fit one, and stands after the header; its content is the last len bytes of its span.
+
+pub judge-name : (s : List ℕ) (c : Component) → judge s ≡ some c
+    → (nameFits (c .name) ≡ true) × (24 + length (c .name) ≤ c .offset) × (take (length (c .name)) (drop 24 s) ≡ c .name)
+unfolding componentOf
+judge-name s c e = subst (λ (x : Component). (nameFits (x .name) ≡ true) × (24 + length (x .name) ≤ x .offset) × (take (length (x .name)) (drop 24 s) ≡ x .name)) (f .read) (
+  field-name (nameField s) (f .named),
+  omega (arith, f .least, l, v),
+  sym (take-take (length (beforeZero (nameField s))) (offsetOf s - 24) (drop 24 s) (omega (arith, l, v))) ∙ before-take (nameField s),
+)
+  where
+    f : Formed s c
+    f = formed s c e
+
+    l : length (beforeZero (nameField s)) ≤ length (nameField s)
+    l = before-le (nameField s)
+
+    v : length (nameField s) ≤ offsetOf s - 24
+    v = rw length-take (min-le-left _ _)
+
+pub judge-content : (s : List ℕ) (c : Component) → judge s ≡ some c → (c .content ≡ take (c .len) (drop (c .offset) s)) × (length (c .content) ≡ c .len)
+unfolding componentOf
+judge-content s c e =
+    let f : Formed s c = formed s c e in
+    subst (λ (x : Component). (x .content ≡ take (x .len) (drop (x .offset) s)) × (length (x .content) ≡ x .len)) (f .read)
+    (refl, simp (length-take, length-drop) (omega (arith, f .fits)))
+
+-- Two lists agree on the n bytes from p on.
+pub window : (n p : ℕ) (u v : List ℕ) → min n (length u - p) ≡ min n (length v - p) → ((j : ℕ) → j < n → p + j < length u → getD u (p + j) 0 ≡ getD v (p + j) 0)
+    → take n (drop p u) ≡ take n (drop p v)
+window n p u v l h = ext-getD 0 (take n (drop p u)) (take n (drop p v)) (lu ∙ l ∙ sym (lv))
+    (λ j k. getD-take n (drop p u) j 0 (omega (arith, lu)) ∙ getD-drop p u j 0 ∙ h j (omega (arith, lu)) (omega (arith, lu)) ∙ sym (getD-drop p v j 0) ∙ sym (getD-take n (drop p v) j 0 (omega (arith, lu))))
+  where
+    lu : length (take n (drop p u)) ≡ min n (length u - p)
+    lu = rw (length-take, length-drop)
+
+    lv : length (take n (drop p v)) ≡ min n (length v - p)
+    lv = rw (length-take, length-drop)
+
+-- Two parts that begin with the same n bytes.
+module _ (n : ℕ) (s s′ : List ℕ) (long : n ≤ length s) (same : take n s′ ≡ take n s) where
+  same-long : n ≤ length s′
+  same-long = omega (arith, sym (length-take n s′), ap length same, length-take n s)
+
+  same-take : (m : ℕ) → m ≤ n → take m s′ ≡ take m s
+  same-take m h = sym (take-take m n s′ h) ∙ ap (take m) same ∙ take-take m n s h
+
+  same-at : (i : ℕ) → i < n → getD s′ i 0 ≡ getD s i 0
+  same-at i h = sym (getD-take n s′ i 0 h) ∙ ap (λ (l : List ℕ). getD l i 0) same ∙ getD-take n s i 0 h
+
+  same-be : (w i : ℕ) → i + w ≤ n → be w s′ i ≡ be w s i
+  same-be w i h = be-same w s s′ i (λ j l k. same-at j (omega arith))
+
+  same-part : (i m : ℕ) → i + m ≤ n → take m (drop i s′) ≡ take m (drop i s)
+  same-part i m h = window m i s′ s (omega (arith, same-long)) (λ j k l. same-at (i + j) (omega arith))
+
+  same-magic : 8 ≤ n → startsWithMagic s′ ≡ startsWithMagic s
+  unfolding startsWithMagic
+  same-magic h = rw (same-take 8 h)
+
+  same-field : offsetOf s ≤ n → 24 ≤ n → nameField s′ ≡ nameField s
+  same-field h k = rw (same-be 4 20 (omega arith)) (same-part 24 (offsetOf s - 24) (omega arith))
+
+  same-component : offsetOf s + lenOf s ≤ n → 24 ≤ n → componentOf s′ ≡ componentOf s
+  unfolding componentOf
+  same-component h k =
+      rw (same-be 4 20 (omega arith), same-be 4 8 (omega arith), same-be 4 12 (omega arith), same-part (offsetOf s) (lenOf s) h, same-part 24 (offsetOf s - 24) (omega arith))
+
+-- A component is judged by the bytes of its span alone.
+pub judge-local : (s s′ : List ℕ) (c : Component) → judge s ≡ some c → take (span c) s′ ≡ take (span c) s → judge s′ ≡ some c
+unfolding componentOf
+judge-local s s′ c e same =
+    let f : Formed s c = formed s c e in
+    let b : (40 ≤ c .offset) × (span c ≤ length s) = judge-fits s c e in
+    let q : offsetOf s + lenOf s ≡ span c = ap span (f .read) in
+    let l : span c ≤ length s′ = same-long (span c) s s′ (b .1) same in
+    let o : offsetOf s′ ≡ offsetOf s = same-be (span c) s s′ (b .1) same 4 20 (omega arith) in
+    let n : lenOf s′ ≡ lenOf s = same-be (span c) s s′ (b .1) same 4 8 (omega arith) in
+    unformed s′ c (record {
+      magic = same-magic (span c) s s′ (b .1) same (omega arith) ∙ f .magic;
+      long = omega arith;
+      least = omega (arith, f .least);
+      most = omega (arith, f .most);
+      whole = rw o (f .whole);
+      fits = omega arith;
+      named = rw (same-field (span c) s s′ (b .1) same (omega arith) (omega arith)) (f .named);
+      read = same-component (span c) s s′ (b .1) same (omega arith) (omega arith) ∙ f .read;
+    })
+
+-- From the answer to the component.
+
+pub judged-some : (o : Option Component) (h : Header) → judged o ≡ WellFormed h → (c : Component) × (o ≡ some c) × (headerOf c ≡ h)
+judged-some none h e = let z : _≡_ {A = ℕ} 0 1 = cc in absurd (omega arith)
+judged-some (some c) h e = (c, refl, (cc))
+
+pub judged-none : (o : Option Component) → judged o ≡ IllFormed → o ≡ none
+judged-none none e = refl
+judged-none (some c) e = let z : _≡_ {A = ℕ} 0 1 = cc in absurd (omega arith)
+
+pub part-name : (s : List ℕ) (h : Header) → judged (judge s) ≡ WellFormed h → partOf s 24 (h .named) ≡ nameOf (judge s)
+part-name s h e = let (c, q, r) = judged-some (judge s) h e in go c q r
+  where
+    go : (c : Component) → judge s ≡ some c → headerOf c ≡ h → partOf s 24 (h .named) ≡ nameOf (judge s)
+    go c q r =
+        let f = judge-fits s c q in
+        let n = judge-name s c q in
+        subst (λ (x : Header). partOf s 24 (x .named) ≡ nameOf (judge s)) r (sym (part-in s 24 (length (c .name)) (omega (arith, f .1, n .1))) ∙ n .2 ∙ sym (ap nameOf q))
+
+pub part-content : (s : List ℕ) (h : Header) → judged (judge s) ≡ WellFormed h → partOf s (h .offset) (h .len) ≡ contentOf (judge s)
+part-content s h e = let (c, q, r) = judged-some (judge s) h e in go c q r
+  where
+    go : (c : Component) → judge s ≡ some c → headerOf c ≡ h → partOf s (h .offset) (h .len) ≡ contentOf (judge s)
+    go c q r =
+        subst (λ (x : Header). partOf s (x .offset) (x .len) ≡ contentOf (judge s)) r
+        (sym (part-in s (c .offset) (c .len) (judge-fits s c q .1)) ∙ sym (judge-content s c q .0) ∙ sym (ap contentOf q))

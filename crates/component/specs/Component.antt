@@ -1,0 +1,100 @@
+-- A component, judged on the part of the image that begins at its place (document 01, "Components and the two walks").
+use Prim.Native.Nat.{ℕ, _+_, _-_, _%_}
+use mathlib.Core.List.{List, [], _∷_}
+use mathlib.Core.Bool.{Bool, true, false, cond}
+use mathlib.Core.Option.{Option, some, none}
+use lib.ListN.{length, take, drop}
+use lib.Dec.{leb, eqb}
+use Rattle.number.specs.Number.{be}
+use Rattle.number.specs.Bytes.{eqBytes}
+use Rattle.number.specs.Tests.{every}
+use Rattle.component.specs.Names.{beforeZero, fieldFits}
+use Rattle.component.specs.declared.Header.{Header}
+use Rattle.component.specs.declared.Judged.{Judged}
+use Rattle.component.specs.declared.Judged.the-variants.{WellFormed, IllFormed}
+
+-- LARCHIVE
+unfoldable pub magic : List ℕ
+magic = 0x4C ∷ 0x41 ∷ 0x52 ∷ 0x43 ∷ 0x48 ∷ 0x49 ∷ 0x56 ∷ 0x45 ∷ []
+
+-- The part begins with the magic.
+unfoldable pub startsWithMagic : List ℕ → Bool
+startsWithMagic s = eqBytes (take 8 s) magic
+
+-- The header's fields, big-endian: len, type, checksum and offset after the eight bytes of the magic. The checksum is not read.
+
+abbrev pub lenOf : List ℕ → ℕ
+lenOf s = be 4 s 8
+
+abbrev pub kindOf : List ℕ → ℕ
+kindOf s = be 4 s 12
+
+abbrev pub offsetOf : List ℕ → ℕ
+offsetOf s = be 4 s 20
+
+-- The name field: the offset - 24 bytes after the header.
+abbrev pub nameField : List ℕ → List ℕ
+nameField s = take (offsetOf s - 24) (drop 24 s)
+
+-- A component: its header's numbers, its name and its content.
+pub record Component : Type 0 where
+  pub offset : ℕ
+  pub len : ℕ
+  pub kind : ℕ
+  pub name : List ℕ
+  pub content : List ℕ
+
+-- How many bytes the span has.
+abbrev pub span : Component → ℕ
+span c = c .offset + c .len
+
+-- What stands at the start of the part, where it is well formed.
+unfoldable pub componentOf : List ℕ → Component
+componentOf s = record {
+  offset = offsetOf s;
+  len = lenOf s;
+  kind = kindOf s;
+  name = beforeZero (nameField s);
+  content = take (lenOf s) (drop (offsetOf s) s);
+}
+
+-- What a well-formed header with the offset o and the length l meets.
+unfoldable pub headerTests : List ℕ → ℕ → ℕ → List Bool
+headerTests s o l =
+    leb 24 (length s)
+    ∷ leb 40 o
+    ∷ leb o 280
+    ∷ eqb ((o - 24) % 16) 0
+    ∷ leb (o + l) (length s)
+    ∷ fieldFits (take (o - 24) (drop 24 s))
+    ∷ []
+
+unfoldable pub wellFormed : List ℕ → Bool
+wellFormed s = every (headerTests s (offsetOf s) (lenOf s))
+
+-- The component by its fields alone, for a part that is known to begin with the magic.
+unfoldable pub fields : List ℕ → Option Component
+fields s = cond (wellFormed s) (some (componentOf s)) none
+
+-- The component that stands at the start of the part, if one does.
+unfoldable pub judge : List ℕ → Option Component
+judge s = cond (startsWithMagic s) (fields s) none
+
+-- What the judge answers.
+
+abbrev pub headerOf : Component → Header
+headerOf c = record { offset = c .offset; len = c .len; kind = c .kind; named = length (c .name) }
+
+abbrev pub judged : Option Component → Judged
+judged none = IllFormed
+judged (some c) = WellFormed (headerOf c)
+
+-- The name and the content of a component; empty where there is none.
+
+abbrev pub nameOf : Option Component → List ℕ
+nameOf none = []
+nameOf (some c) = c .name
+
+abbrev pub contentOf : Option Component → List ℕ
+contentOf none = []
+contentOf (some c) = c .content

@@ -1,0 +1,96 @@
+-- What an image that is not refused by 1 to 8 is known to have.
+use Prim.Native.Nat.{ℕ, zero, suc, _+_, _-_, _^_, _%_, _≤_, _<_}
+use native.Mathlib.Omega.{arith}
+use native.Mathlib.Decide.{decLe, decLt}
+use native.Mathlib.Nat.{pow-le-pow-right, pow-suc}
+use mathlib.Core.Path.{_≡_, refl, sym, ap, subst, _∙_}
+use mathlib.Core.Bool.{Bool, true, false, cond, false≢true}
+use mathlib.Core.List.{List, [], _∷_}
+use lib.ListN.{length, getD, drop}
+use lib.Dec.{leb, eqb}
+use lib.Count.{ones}
+use borrow.Author.Tests.{leb-true, eqb-true, eqb-false}
+use Rattle.terms.specs.Terms.{refusedBy}
+use Rattle.number.specs.Tests.{every}
+use Rattle.number.proofs.Passing.{passes}
+use Rattle.terms.specs.Refusals.{Test, test, firstFailed}
+use Rattle.terms.specs.declared.Region.{Region}
+use Rattle.master.specs.Master.{romsize, bootblocksize, align, offset, headerAt, lengthFits, addressFits, bootblockFits, alignFits, offsetFits, tests, refusal, regionOf, master}
+use Rattle.master.specs.declared.Master.the-variants.{Read, Refused}
+use Rattle.master.proofs.Power.{one-bit}
+
+-- All tests are passed where none fails.
+
+abbrev numbered : List Test → Bool
+numbered [] = true
+numbered (t ∷ ts) = cond (eqb (t .number) 0) false (numbered ts)
+
+all-passed : (ts : List Test) → numbered ts ≡ true → firstFailed ts ≡ 0 → (k : ℕ) → (getD ts k (test 1 true)) .passed ≡ true
+all-passed [] n e k = refl
+all-passed (t ∷ ts) n e k = go (eqb (t .number) 0) refl (t .passed) refl n e k (all-passed ts)
+  where
+    go : (a : Bool) → eqb (t .number) 0 ≡ a → (b : Bool) → t .passed ≡ b → cond a false (numbered ts) ≡ true → cond b (firstFailed ts) (t .number) ≡ 0 → (k : ℕ)
+        → (numbered ts ≡ true → firstFailed ts ≡ 0 → (k : ℕ) → (getD ts k (test 1 true)) .passed ≡ true) → (getD (t ∷ ts) k (test 1 true)) .passed ≡ true
+    go true p b q n′ e′ k ih = absurd (false≢true n′)
+    go false p false q n′ e′ k ih = absurd (eqb-false _ _ p e′)
+    go false p true q n′ e′ zero ih = q
+    go false p true q n′ e′ (suc k) ih = ih n′ e′ k
+
+read-some : (i : List ℕ) (g : Region) → master i ≡ Read g → (refusal i ≡ 0) × (regionOf i ≡ g)
+unfolding master
+read-some i g e = go (eqb (refusal i) 0) refl e
+  where
+    go : (b : Bool) → eqb (refusal i) 0 ≡ b → cond b (Read (regionOf i)) (Refused (refusedBy (refusal i))) ≡ Read g → (refusal i ≡ 0) × (regionOf i ≡ g)
+    go true q e′ = (eqb-true _ _ q, (cc))
+    go false q e′ = let z : _≡_ {A = ℕ} 0 1 = cc in absurd (omega arith)
+
+-- The region of an image that is read.
+pub record Known (i : List ℕ) (g : Region) : Type 0 where
+  pub long : 64 ≤ length i
+  pub short : length i ≤ 16777216
+  pub forward : g .start ≤ g .end
+  pub inside : g .end ≤ length i
+  pub whole : g .start % g .align ≡ 0
+  pub one : ones (g .align) ≡ 1
+  pub least : 16 ≤ g .align
+  pub most : g .align ≤ 65536
+  pub before : g .end ≤ headerAt i
+
+pub known : (i : List ℕ) (g : Region) → master i ≡ Read g → Known i g
+unfolding tests refusal lengthFits addressFits bootblockFits alignFits offsetFits headerAt
+known i g e = subst (Known i) (r .1) (record {
+  long = leb-true _ _ (l 0);
+  short = leb-true _ _ (l 1);
+  forward = leb-true _ _ (o 1);
+  inside = omega (arith, s);
+  whole = eqb-true _ _ (o 0);
+  one = eqb-true _ _ (a 0);
+  least = leb-true _ _ (a 1);
+  most = leb-true _ _ (a 2);
+  before = omega (arith, s, leb-true (length i - bootblocksize i) (headerAt i) (b 1));
+})
+  where
+    r : (refusal i ≡ 0) × (regionOf i ≡ g)
+    r = read-some i g e
+
+    p : (k : ℕ) → (getD (tests i) k (test 1 true)) .passed ≡ true
+    p = all-passed (tests i) refl (r .0)
+
+    l : (k : ℕ) → getD (leb 64 (length i) ∷ leb (length i) 16777216 ∷ []) k true ≡ true
+    l k = passes k (leb 64 (length i) ∷ leb (length i) 16777216 ∷ []) (p 0)
+
+    s : romsize i ≡ length i
+    s = eqb-true _ _ (p 4)
+
+    b : (k : ℕ) → getD (leb (bootblocksize i) (romsize i) ∷ leb (length i - bootblocksize i) (headerAt i) ∷ []) k true ≡ true
+    b k = passes k (leb (bootblocksize i) (romsize i) ∷ leb (length i - bootblocksize i) (headerAt i) ∷ []) (p 5)
+
+    a : (k : ℕ) → getD (eqb (ones (align i)) 1 ∷ leb 16 (align i) ∷ leb (align i) 65536 ∷ []) k true ≡ true
+    a k = passes k (eqb (ones (align i)) 1 ∷ leb 16 (align i) ∷ leb (align i) 65536 ∷ []) (p 6)
+
+    o : (k : ℕ) → getD (eqb (offset i % align i) 0 ∷ leb (offset i) (romsize i - bootblocksize i) ∷ []) k true ≡ true
+    o k = passes k (eqb (offset i % align i) 0 ∷ leb (offset i) (romsize i - bootblocksize i) ∷ []) (p 7)
+
+-- An align that is read is a power of two, 2^4 to 2^16.
+pub align-power : (i : List ℕ) (g : Region) → master i ≡ Read g → (k : ℕ) × (g .align ≡ 2 ^ k)
+align-power i g e = one-bit (g .align) (known i g e .one)

@@ -1,0 +1,5 @@
+pub mod Digits
+pub mod SameBytes
+pub mod Overwrite
+pub mod Splice
+pub mod Passing

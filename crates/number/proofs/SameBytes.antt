@@ -1,0 +1,53 @@
+-- Laws of eqBytes, for a loop over the indices and for whoever compares.
+use Prim.Native.Nat.{ℕ, suc, _+_, _≤_, _<_}
+use mathlib.Core.Path.{_≡_, refl, ap}
+use mathlib.Core.Bool.{Bool, true, false, cond, false≢true}
+use mathlib.Core.List.{List, [], _∷_}
+use native.Mathlib.Numerals.{add-one}
+use lib.ListN.{length, drop, getD, drop-of-length-le}
+use lib.Seq.{drop-cons}
+use lib.Dec.{eqb}
+use borrow.Author.Tests.{eq-eqb, ne-eqb, eqb-true}
+use Rattle.number.specs.Bytes.{eqBytes}
+
+pub eq-length : (a b : List ℕ) → (length a ≡ length b → ⊥) → eqBytes a b ≡ false
+unfolding eqBytes
+eq-length [] [] h = absurd (h refl)
+eq-length [] (y ∷ b) h = refl
+eq-length (x ∷ a) [] h = refl
+eq-length (x ∷ a) (y ∷ b) h = rw (eq-length a b (λ e. h (ap suc e))) (cond-false (eqb x y))
+  where
+    cond-false : (t : Bool) → cond t false false ≡ false
+    cond-false true = refl
+    cond-false false = refl
+
+pub eq-here : (a b : List ℕ) (i : ℕ) → i < length a → i < length b → getD a i 0 ≡ getD b i 0
+    → eqBytes (drop i a) (drop i b) ≡ eqBytes (drop (i + 1) a) (drop (i + 1) b)
+unfolding eqBytes
+eq-here a b i ha hb e = rw (add-one, drop-cons a i 0 ha, drop-cons b i 0 hb, eq-eqb (getD a i 0) (getD b i 0) e)
+
+pub eq-differ : (a b : List ℕ) (i : ℕ) → i < length a → i < length b → (getD a i 0 ≡ getD b i 0 → ⊥)
+    → eqBytes (drop i a) (drop i b) ≡ false
+unfolding eqBytes
+eq-differ a b i ha hb e = rw (drop-cons a i 0 ha, drop-cons b i 0 hb, ne-eqb (getD a i 0) (getD b i 0) e)
+
+pub eq-done : (a b : List ℕ) (i : ℕ) → length a ≤ i → length b ≤ i → eqBytes (drop i a) (drop i b) ≡ true
+unfolding eqBytes
+eq-done a b i ha hb = rw (drop-of-length-le a ha, drop-of-length-le b hb)
+
+-- The test says that the bytes are the same, and nothing else.
+pub eq-true : (a b : List ℕ) → eqBytes a b ≡ true → a ≡ b
+unfolding eqBytes
+eq-true [] [] e = refl
+eq-true [] (y ∷ b) e = absurd (false≢true e)
+eq-true (x ∷ a) [] e = absurd (false≢true e)
+eq-true (x ∷ a) (y ∷ b) e = go (eqb x y) refl e (eq-true a b)
+  where
+    go : (t : Bool) → eqb x y ≡ t → cond t (eqBytes a b) false ≡ true → (eqBytes a b ≡ true → a ≡ b) → x ∷ a ≡ y ∷ b
+    go true q f ih = rw (eqb-true x y q, ih f)
+    go false q f ih = absurd (false≢true f)
+
+pub eq-refl : (a : List ℕ) → eqBytes a a ≡ true
+unfolding eqBytes
+eq-refl [] = refl
+eq-refl (x ∷ a) = rw (eq-eqb x x refl) (eq-refl a)

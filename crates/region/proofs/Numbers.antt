@@ -1,0 +1,54 @@
+-- Laws of the numbers to step from.
+use Prim.Native.Nat.{ℕ, _+_, _-_, _%_, _≤_, _<_}
+use native.Mathlib.Nat.{mod-zero}
+use native.Mathlib.Omega.{arith}
+use mathlib.Core.Path.{_≡_, refl, sym, _∙_}
+use mathlib.Core.Bool.{Bool, true, false, _||_}
+use mathlib.Core.List.{List, [], _∷_}
+use lib.Dec.{leb, eqb}
+use borrow.Author.Tests.{leb-true, le-leb, lt-leb, eq-eqb, ne-eqb, eqb-true, eqb-false}
+use Rattle.number.specs.Tests.{every}
+use Rattle.number.proofs.Passing.{fails, passes}
+use Rattle.terms.specs.declared.Region.{Region}
+use Rattle.region.specs.Region.{stepFits}
+
+abbrev tests : Region → ℕ → List Bool
+tests g n = leb (g .start) n ∷ leb n (g .end) ∷ (eqb n (g .end) || eqb ((n - g .start) % g .align) 0) ∷ []
+
+module _ (g : Region) (n : ℕ) where
+  pub fit-low : n < g .start → false ≡ stepFits g n
+  unfolding stepFits
+  fit-low h = sym (fails 0 (tests g n) (lt-leb _ _ h))
+
+  pub fit-high : g .end < n → false ≡ stepFits g n
+  unfolding stepFits
+  fit-high h = sym (fails 1 (tests g n) (lt-leb _ _ h))
+
+  pub fit-end : g .start ≤ n → n ≡ g .end → true ≡ stepFits g n
+  unfolding stepFits
+  fit-end l e = rw (le-leb _ _ l, le-leb n (g .end) (omega arith), eq-eqb _ _ e)
+
+  -- Short of the end the number is a place, or not.
+  pub fit-place : g .start ≤ n → n ≤ g .end → (n ≡ g .end → ⊥) → eqb ((n - g .start) % g .align) 0 ≡ stepFits g n
+  unfolding stepFits
+  fit-place l h e = rw (le-leb _ _ l, le-leb _ _ h, ne-eqb _ _ e) (sym (last (eqb ((n - g .start) % g .align) 0)))
+    where
+      last : (b : Bool) → every (b ∷ []) ≡ b
+      last true = refl
+      last false = refl
+
+  -- At an alignment of 0 only the start is one.
+  pub fit-zero : g .start ≤ n → n ≤ g .end → (n ≡ g .end → ⊥) → g .align ≡ 0 → eqb n (g .start) ≡ stepFits g n
+  fit-zero l h e z = same (eqb n (g .start)) refl ∙ fit-place l h e
+    where
+      rest : (n - g .start) % g .align ≡ n - g .start
+      rest = rw (z, mod-zero (n - g .start))
+
+      same : (b : Bool) → eqb n (g .start) ≡ b → b ≡ eqb ((n - g .start) % g .align) 0
+      same true q = sym (eq-eqb ((n - g .start) % g .align) 0 (omega (arith, rest, eqb-true n (g .start) q)))
+      same false q = sym (ne-eqb ((n - g .start) % g .align) 0 (λ y. eqb-false n (g .start) q (omega (arith, rest, y))))
+
+  -- A number to step from is not below the start, nor past the end.
+  pub fit-from : stepFits g n ≡ true → (g .start ≤ n) × (n ≤ g .end)
+  unfolding stepFits
+  fit-from e = (leb-true _ _ (passes 0 (tests g n) e), leb-true _ _ (passes 1 (tests g n) e))

@@ -1,0 +1,34 @@
+// What every layer above speaks of: a region of an image, and a refusal.
+ghost use mathlib.Core.Path.{_≡_};
+ghost use Rattle.terms.specs.Terms.{bytesOf, refusedBy};
+
+// The bytes of an image from start up to end, with places at multiples of align counted from start.
+pub struct Region {
+    pub start: usize,
+    pub end: usize,
+    pub align: usize,
+}
+
+// A refusal's number, and the place that it tells.
+pub struct Refusal {
+    pub number: u32,
+    pub place: usize,
+}
+
+// A refusal that tells no place.
+pub fn refused(number: u32) -> Refusal
+    ensures { λ r. ⌜ r ≡ refusedBy number ⌝ }
+{
+    Refusal { number, place: 0 }
+}
+
+// The region's bytes, as a part of the image; empty where its numbers do not fit the image.
+pub fn bytes(image: &[u8], region: Region) -> &[u8]
+    ensures { λ r. ⌜ now r ≡ bytesOf (now (image .entry)) region ⌝ }
+    ensures kept { λ _. ⌜ now (image .exit) ≡ now (image .entry) ⌝ }
+{
+    if region.end < region.start {
+        return &image[0..0];
+    }
+    number::part(image, region.start, region.end - region.start)
+}

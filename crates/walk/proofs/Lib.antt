@@ -1,0 +1,9 @@
+pub mod Places
+pub mod Hunting
+pub mod Steps
+pub mod Picks
+pub mod Stepping
+pub mod Lookups
+pub mod Members
+pub mod Rounding
+pub mod Bearers

@@ -1,0 +1,124 @@
+-- Laws of listings and bearers, for a loop that takes one step after the other. g tells the guarded walk.
+use Prim.Native.Nat.{ℕ, suc, _+_, _-_, _≤_, _<_}
+use native.Mathlib.Omega.{arith}
+use native.Mathlib.Decide.{decLt}
+use mathlib.Core.Path.{_≡_, refl, sym, ap, subst, _∙_}
+use mathlib.Core.List.{List, [], _∷_}
+use mathlib.Core.Bool.{Bool, true, false, cond}
+use mathlib.Core.Option.{Option, some, none, Option·none-ne-some}
+use lib.ListN.{length, drop, length-drop}
+use Rattle.number.specs.Bytes.{partOf, eqBytes}
+use Rattle.number.proofs.Splice.{part-in}
+use Rattle.component.specs.Component.{Component, span, judge}
+use Rattle.component.proofs.Judging.{judge-fits, judge-name}
+use Rattle.walk.specs.Lists.{keep}
+use Rattle.walk.specs.Walk.{Entry, Pick, end, plain, guarded, pickOf, step, onward, next, listingFrom, takenOf, told}
+use Rattle.walk.specs.Lookup.{bears, bearersFrom, firstOf, foremost, found}
+use Rattle.walk.specs.declared.Taken.{Taken}
+use Rattle.walk.specs.declared.Step.the-variants.{Took, NoneLeft}
+use Rattle.walk.specs.declared.Found.the-variants.{At, Refused}
+use Rattle.walk.proofs.Steps.{First, step-some, rest-none, rest-some, onward-far}
+use Rattle.walk.proofs.Picks.{guarded-plain}
+use Rattle.walk.proofs.Stepping.{pick-fits, step-none, step-past}
+
+-- From the answer to the component.
+
+pub told-some : (r : List ℕ) (a : ℕ) (o : Option Entry) (t : Taken) → told r a o ≡ Took t → (e : Entry) × (o ≡ some e) × (takenOf r a e ≡ t)
+told-some r a none t e = let z : _≡_ {A = ℕ} 0 1 = cc in absurd (omega arith)
+told-some r a (some x) t e = (x, refl, (cc))
+
+pub told-none : (r : List ℕ) (a : ℕ) (o : Option Entry) → told r a o ≡ NoneLeft → o ≡ none
+told-none r a none e = refl
+told-none r a (some x) e = let z : _≡_ {A = ℕ} 0 1 = cc in absurd (omega arith)
+
+-- What a step has taken.
+pub record Stands (r : List ℕ) (a n : ℕ) (e : Entry) : Type 0 where
+  pub pos : 0 < a
+  pub from : n ≤ e .place
+  pub inside : e .place < length r
+  pub judged : judge (drop (e .place) r) ≡ some (e .component)
+  pub fits : end e ≤ length r
+  pub later : n < next r a e
+  pub named : partOf (drop (e .place) r) 24 (length (e .component .name)) ≡ e .component .name
+
+module _ (g : Bool) (r : List ℕ) (a n : ℕ) where
+  step-pos : (e : Entry) → step (pickOf g r a) r a n ≡ some e → 0 < a
+  step-pos e s = go (decLt 0 a)
+    where
+      go : Dec (0 < a) → 0 < a
+      go (yes h) = h
+      go (no h) = absurd (Option·none-ne-some e (sym (step-none (pickOf g r a) r a n (omega arith)) ∙ s))
+
+  pub pick-judged : 0 < a → (p : ℕ) (c : Component) → pickOf g r a p ≡ some c → judge (drop p r) ≡ some c
+  unfolding plain
+  pick-judged pos p c e = go g e
+    where
+      go : (b : Bool) → pickOf b r a p ≡ some c → judge (drop p r) ≡ some c
+      go true e′ = guarded-plain r a pos p c e′ .0
+      go false e′ = e′
+
+  pub stands : (e : Entry) → step (pickOf g r a) r a n ≡ some e → Stands r a n e
+  stands e s =
+      let pos = step-pos e s in
+      let f : First (pickOf g r a) r a pos n e = step-some (pickOf g r a) r a pos n e s in
+      let j = pick-judged pos (e .place) (e .component) (f .taken) in
+      let b = pick-fits g r a pos (e .place) (e .component) (f .taken) in
+      let i = judge-fits (drop (e .place) r) (e .component) j in
+      let m = judge-name (drop (e .place) r) (e .component) j in
+      record {
+        pos = pos;
+        from = omega (arith, f .at);
+        inside = f .inside;
+        judged = j;
+        fits = b .1;
+        later = omega (arith, f .at, onward-far (pickOf g r a) r a pos (end e) (suc (e .place)) (omega (arith, b .0)) (f .inside));
+        named = sym (part-in (drop (e .place) r) 24 (length (e .component .name)) (omega (arith, i .1, m .1))) ∙ m .2;
+      }
+
+  module _ (name : List ℕ) where
+    pub bearers-end : step (pickOf g r a) r a n ≡ none → bearersFrom (pickOf g r a) r a name n ≡ []
+    unfolding bearersFrom keep
+    bearers-end s = rw (rest-none (pickOf g r a) r a n s)
+
+    bearers-here : (e : Entry) → step (pickOf g r a) r a n ≡ some e → bearersFrom (pickOf g r a) r a name n ≡ cond (bears name e) (e ∷ bearersFrom (pickOf g r a) r a name (next r a e)) (bearersFrom (pickOf g r a) r a name (next r a e))
+    unfolding bearersFrom keep
+    bearers-here e s = let pos = step-pos e s in rw (rest-some (pickOf g r a) r a pos (pick-fits g r a pos) n e s)
+
+    -- The same by what a step answered, t.
+
+    module _ (t : Taken) (s : told r a (step (pickOf g r a) r a n) ≡ Took t) where
+      pub took-inside : (t .place ≤ length r) × (n < t .next)
+      took-inside = let (e, o, q) = told-some r a (step (pickOf g r a) r a n) t s in go e o q
+        where
+          go : (e : Entry) → step (pickOf g r a) r a n ≡ some e → takenOf r a e ≡ t → (t .place ≤ length r) × (n < t .next)
+          go e o q = let k : Stands r a n e = stands e o in
+              subst (λ (x : Taken). (x .place ≤ length r) × (n < x .next)) q (omega (arith, k .inside), k .later)
+
+      bears-said : (e : Entry) → step (pickOf g r a) r a n ≡ some e → takenOf r a e ≡ t → eqBytes (partOf (drop (t .place) r) 24 (t .header .named)) name ≡ bears name e
+      unfolding bears
+      bears-said e o q = subst (λ (x : Taken). eqBytes (partOf (drop (x .place) r) 24 (x .header .named)) name ≡ bears name e) q
+          (ap (λ (l : List ℕ). eqBytes l name) (stands e o .named))
+
+      pub bearer-here : eqBytes (partOf (drop (t .place) r) 24 (t .header .named)) name ≡ true → Took t ≡ told r a (firstOf (bearersFrom (pickOf g r a) r a name n))
+      bearer-here b = let (e, o, q) = told-some r a (step (pickOf g r a) r a n) t s in go e o q
+        where
+          go : (e : Entry) → step (pickOf g r a) r a n ≡ some e → takenOf r a e ≡ t → Took t ≡ told r a (firstOf (bearersFrom (pickOf g r a) r a name n))
+          go e o q = rw (bearers-here e o, sym (bears-said e o q) ∙ b, ← q)
+
+      pub bearer-on : eqBytes (partOf (drop (t .place) r) 24 (t .header .named)) name ≡ false → bearersFrom (pickOf g r a) r a name n ≡ bearersFrom (pickOf g r a) r a name (t .next)
+      bearer-on b = let (e, o, q) = told-some r a (step (pickOf g r a) r a n) t s in go e o q
+        where
+          go : (e : Entry) → step (pickOf g r a) r a n ≡ some e → takenOf r a e ≡ t → bearersFrom (pickOf g r a) r a name n ≡ bearersFrom (pickOf g r a) r a name (t .next)
+          go e o q = rw (bearers-here e o, sym (bears-said e o q) ∙ b) (ap (λ (x : Taken). bearersFrom (pickOf g r a) r a name (x .next)) q)
+
+-- The plain lookup, by the first bearer that was found.
+
+pub first-found : (r : List ℕ) (a : ℕ) (l : List Entry) (t : Taken) → told r a (firstOf l) ≡ Took t → At t ≡ found r a (foremost l)
+unfolding foremost
+first-found r a [] t e = let z : _≡_ {A = ℕ} 0 1 = cc in absurd (omega arith)
+first-found r a (x ∷ l) t e = cc
+
+pub first-missing : (r : List ℕ) (a : ℕ) (l : List Entry) → told r a (firstOf l) ≡ NoneLeft → Refused 10 ≡ found r a (foremost l)
+unfolding foremost
+first-missing r a [] e = refl
+first-missing r a (x ∷ l) e = let z : _≡_ {A = ℕ} 0 1 = cc in absurd (omega arith)

@@ -1,0 +1,52 @@
+-- Lookups by name (document 01, "Components and the two walks"). Any bytes may be asked for; an unfit name is borne by nobody.
+use Prim.Native.Nat.{ℕ}
+use mathlib.Core.List.{List, [], _∷_}
+use mathlib.Core.Bool.{Bool}
+use mathlib.Core.Option.{Option, some, none}
+use Rattle.number.specs.Bytes.{eqBytes}
+use Rattle.walk.specs.Lists.{keep}
+use Rattle.walk.specs.Walk.{Entry, Pick, listingFrom, plainListing, guardedListing, takenOf}
+use Rattle.walk.specs.declared.Found.{Found}
+use Rattle.walk.specs.declared.Found.the-variants.{At, Refused}
+
+-- The component bears the name, byte for byte.
+unfoldable pub bears : List ℕ → Entry → Bool
+bears name t = eqBytes (t .component .name) name
+
+-- A component, or the number of a refusal.
+pub data Answer : Type 0 where
+  refused : ℕ → Answer
+  gives : Entry → Answer
+
+-- The first bearer; 10 where nobody bears the name.
+unfoldable pub foremost : List Entry → Answer
+foremost [] = refused 10
+foremost (t ∷ ts) = gives t
+
+-- The only bearer; 10 where nobody bears the name, 11 where more than one does.
+unfoldable pub only : List Entry → Answer
+only [] = refused 10
+only (t ∷ []) = gives t
+only (t ∷ u ∷ us) = refused 11
+
+-- The bearers in a walk's listing from n on.
+unfoldable pub bearersFrom : Pick → List ℕ → ℕ → List ℕ → ℕ → List Entry
+bearersFrom pick r a name n = keep (bears name) (listingFrom pick r a n)
+
+-- Plain lookup gives the first bearer in the plain listing.
+abbrev pub plainLookup : List ℕ → ℕ → List ℕ → Answer
+plainLookup r a name = foremost (keep (bears name) (plainListing r a))
+
+-- Guarded lookup gives the only bearer in the guarded listing.
+abbrev pub guardedLookup : List ℕ → ℕ → List ℕ → Answer
+guardedLookup r a name = only (keep (bears name) (guardedListing r a))
+
+-- The first of a list.
+abbrev pub firstOf : List Entry → Option Entry
+firstOf [] = none
+firstOf (t ∷ ts) = some t
+
+-- What a lookup answers.
+abbrev pub found : List ℕ → ℕ → Answer → Found
+found r a (refused n) = Refused n
+found r a (gives t) = At (takenOf r a t)

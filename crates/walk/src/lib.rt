@@ -1,0 +1,195 @@
+// The walks over a region's bytes: the hunt for the magic, a step, and the lookup by name (document 01, "Components and the two walks").
+// A region is a run of bytes; places are multiples of the alignment, counted from its start. An alignment of 0 has no places.
+use component::Header;
+use component::Judged;
+ghost use mathlib.Core.Path.{_≡_};
+ghost use mathlib.Core.Bool.{true, false, cond};
+ghost use Prim.Native.Nat.{_+_, _-_, _≤_, _<_, min};
+ghost use lib.ListN.{length, drop};
+ghost use Rattle.number.specs.Bytes.{partOf, eqBytes};
+ghost use Rattle.walk.specs.Walk.{nextMagic, onward as onwardOf, step as stepOf, told, pickOf, plain, guarded as guardedOf};
+ghost use Rattle.walk.specs.Lookup.{bearersFrom, firstOf, plainLookup, found};
+
+// A component that a walk has taken, and the number to go on from.
+pub struct Taken {
+    pub place: usize,
+    pub header: Header,
+    pub next: usize,
+}
+
+pub enum Step {
+    Took(Taken),
+    NoneLeft,
+}
+
+// A component, or the number of a refusal.
+pub enum Found {
+    At(Taken),
+    Refused(u32),
+}
+
+fn least(a: usize, b: usize) -> usize
+    ensures { λ r. ⌜ r ≡ min a b ⌝ }
+{
+    if a < b { a } else { b }
+}
+
+// The hunt's loop, below a number after which eight bytes still lie in the region.
+fn hunt(r: &[u8], align: usize, from: usize, stop: usize) -> usize
+    requires { ⌜ (0 < align) × (align ≤ length (now r)) × (stop + 7 ≤ length (now r)) ⌝ }
+    ensures { λ q. ⌜ q ≡ nextMagic (now (r .entry)) align from stop ⌝ }
+{
+    let mut p = from;
+    while p < stop {
+        if component::starts_with_magic(&r[p..p + 8]) {
+            return p;
+        }
+        p += align;
+    }
+    stop
+}
+
+// The first place at or after `from` and below `below` that carries the magic, or else `below`.
+// The eight bytes may pass `below`, but not the region's end.
+pub fn next_magic(r: &[u8], align: usize, from: usize, below: usize) -> usize
+    ensures { λ q. ⌜ q ≡ nextMagic (now (r .entry)) align from below ⌝ }
+    ensures kept { λ _. ⌜ now (r .exit) ≡ now (r .entry) ⌝ }
+{
+    if align == 0 {
+        return below;
+    }
+    if r.len() < 8 {
+        return below;
+    }
+    let stop = least(below, r.len() - 7);
+    if stop <= from {
+        return below;
+    }
+    if stop - from <= align {
+        if component::starts_with_magic(&r[from..]) {
+            return from;
+        }
+        return below;
+    }
+    let q = hunt(r, align, from, stop);
+    if q < stop {
+        return q;
+    }
+    below
+}
+
+// The first place after p and below `below` that carries the magic, or else `below`.
+fn next_after(r: &[u8], align: usize, p: usize, below: usize) -> usize
+    ensures { λ q. ⌜ q ≡ nextMagic (now (r .entry)) align (p + align) below ⌝ }
+{
+    if below <= p {
+        return below;
+    }
+    if below - p <= align {
+        return below;
+    }
+    next_magic(r, align, p + align, below)
+}
+
+// For the guarded walk, the first later place with the magic inside the span from p to e, or else e; for the plain walk, e.
+fn guard(guarded: bool, r: &[u8], align: usize, p: usize, e: usize) -> usize
+    ensures { λ q. ⌜ q ≡ cond guarded (nextMagic (now (r .entry)) align (p + align) e) e ⌝ }
+{
+    if guarded {
+        return next_after(r, align, p, e);
+    }
+    e
+}
+
+// The first place at or after n, or else the region's end.
+fn onward(r: &[u8], align: usize, n: usize) -> usize
+    requires { ⌜ (0 < align) × (n ≤ length (now r)) ⌝ }
+    ensures { λ q. ⌜ q ≡ onwardOf (now (r .entry)) align n ⌝ }
+{
+    let over = n % align;
+    if over == 0 {
+        return n;
+    }
+    if r.len() - n < align - over {
+        return r.len();
+    }
+    n + (align - over)
+}
+
+// A step of either walk. Each place is compared with the magic once: the hunt ends at the span's end or at the next candidate.
+fn walk_step(guarded: bool, r: &[u8], align: usize, from: usize) -> Step
+    ensures { λ s. ⌜ s ≡ told (now (r .entry)) align (stepOf (pickOf guarded (now (r .entry)) align) (now (r .entry)) align from) ⌝ }
+{
+    let mut p = next_magic(r, align, from, r.len());
+    while p < r.len() {
+        let j = component::fields(&r[p..]);
+        match j {
+            Judged::WellFormed(h) => {
+                let e = p + (h.offset + h.len);
+                let q = guard(guarded, r, align, p, e);
+                if e <= q {
+                    return Step::Took(Taken {
+                        place: p,
+                        header: h,
+                        next: onward(r, align, e),
+                    });
+                }
+                p = q;
+            }
+            Judged::IllFormed => {
+                p = next_after(r, align, p, r.len());
+            }
+        }
+    }
+    Step::NoneLeft
+}
+
+// The first component that a plain walk begun at `from` takes.
+pub fn plain_step(r: &[u8], align: usize, from: usize) -> Step
+    ensures { λ s. ⌜ s ≡ told (now (r .entry)) align (stepOf (plain (now (r .entry))) (now (r .entry)) align from) ⌝ }
+    ensures kept { λ _. ⌜ now (r .exit) ≡ now (r .entry) ⌝ }
+{
+    walk_step(false, r, align, from)
+}
+
+// The component t of the region bears the name.
+fn bears(r: &[u8], t: Taken, name: &[u8]) -> bool
+    ensures { λ b. ⌜ b ≡ eqBytes (partOf (drop (t .place) (now (r .entry))) 24 (t .header .named)) (now (name .entry)) ⌝ }
+{
+    let h = t.header;
+    number::equal(number::part(number::rest(r, t.place), 24, h.named), name)
+}
+
+// The first component from `from` on that bears the name.
+fn first_bearer(guarded: bool, r: &[u8], align: usize, from: usize, name: &[u8]) -> Step
+    ensures { λ s. ⌜ s ≡ told (now (r .entry)) align (firstOf (bearersFrom (pickOf guarded (now (r .entry)) align) (now (r .entry)) align (now (name .entry)) from)) ⌝ }
+{
+    let mut n = from;
+    while n < r.len() {
+        let s = walk_step(guarded, r, align, n);
+        match s {
+            Step::NoneLeft => {
+                return Step::NoneLeft;
+            }
+            Step::Took(t) => {
+                if bears(r, t, name) {
+                    return Step::Took(t);
+                }
+                n = t.next;
+            }
+        }
+    }
+    Step::NoneLeft
+}
+
+// The first bearer of the name in the plain listing, or refusal 10.
+pub fn plain_find(r: &[u8], align: usize, name: &[u8]) -> Found
+    ensures { λ f. ⌜ f ≡ found (now (r .entry)) align (plainLookup (now (r .entry)) align (now (name .entry))) ⌝ }
+    ensures kept { λ _. ⌜ (now (r .exit) ≡ now (r .entry)) × (now (name .exit) ≡ now (name .entry)) ⌝ }
+{
+    let s = first_bearer(false, r, align, 0, name);
+    match s {
+        Step::Took(t) => Found::At(t),
+        Step::NoneLeft => Found::Refused(10),
+    }
+}

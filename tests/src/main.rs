@@ -1,0 +1,107 @@
+//! The second program: document 01 once more, from the paper, and the library compared with it over generated cases.
+//!
+//!   second PROBE LIST [--seed N] [--cases N] [--keep FILE]   compare; the status is 0 where all agrees
+//!   second bench-image                                       write bench image A
+//!   second self-test                                         show that the comparer notices wrong answers
+
+mod badcases;
+mod bench;
+mod bytes;
+mod capability;
+mod cases;
+mod compare;
+mod conditions;
+mod image;
+mod listings;
+mod master;
+mod plain;
+mod program;
+mod protocol;
+mod rng;
+mod run;
+mod selftest;
+mod tally;
+mod walk;
+
+use std::env;
+use std::io::Write;
+use std::process::ExitCode;
+
+use capability::Capability;
+use run::Words;
+use tally::Tally;
+
+/// The capabilities that are tested. Each is a module of its own and one line here.
+#[rustfmt::skip]
+fn capabilities() -> Vec<Capability> {
+    vec![
+        plain::capability(),
+    ]
+}
+
+/// The least number of cases of a run that does not say how many.
+const CASES: usize = 20_000;
+
+fn compare_all(probe: &Words, list: &Words, seed: u64, count: usize, keep: Option<String>) -> Tally {
+    let mut tally = Tally::new(keep);
+    for capability in capabilities() {
+        compare::test_capability(&capability, probe, seed, count * capability.share / 100, &mut tally);
+    }
+    badcases::test(probe, &mut tally);
+    listings::test(list, seed, &mut tally);
+    tally
+}
+
+fn main() -> ExitCode {
+    let words: Vec<String> = env::args().skip(1).collect();
+    match words.first().map(String::as_str) {
+        Some("bench-image") => {
+            let written = std::io::stdout().write_all(&image::image_a());
+            return if written.is_ok() { ExitCode::SUCCESS } else { ExitCode::FAILURE };
+        }
+        Some("self-test") => return selftest::run(),
+        Some("fake-probe") => return selftest::fake_probe(words.get(1).map(String::as_str)),
+        Some("fake-list") => return selftest::fake_list(),
+        _ => {}
+    }
+
+    let mut seed = 1;
+    let mut count = CASES;
+    let mut keep = None;
+    let mut paths: Vec<String> = Vec::new();
+    let mut rest = words.into_iter();
+    while let Some(word) = rest.next() {
+        let number = |value: Option<String>| value.and_then(|text| text.parse::<u64>().ok());
+        match word.as_str() {
+            "--seed" | "--cases" => match number(rest.next()) {
+                Some(value) if word == "--seed" => seed = value,
+                Some(value) => count = value as usize,
+                None => return usage(),
+            },
+            "--keep" => keep = rest.next(),
+            _ => paths.push(word),
+        }
+    }
+    if paths.len() != 2 {
+        return usage();
+    }
+
+    let tally = compare_all(&vec![paths[0].clone().into()], &vec![paths[1].clone().into()], seed, count, keep);
+    print!("{}", tally.table());
+    if count >= CASES && tally.agreed < CASES && tally.failures.is_empty() {
+        println!("second program: FAILED, {} cases are fewer than {CASES}", tally.agreed);
+        return ExitCode::FAILURE;
+    }
+    if tally.failures.is_empty() {
+        println!("second program: {} cases agree", tally.agreed);
+        ExitCode::SUCCESS
+    } else {
+        println!("second program: FAILED, {} failures, {} cases agree, seed {seed}", tally.failures.len(), tally.agreed);
+        ExitCode::FAILURE
+    }
+}
+
+fn usage() -> ExitCode {
+    eprintln!("second PROBE LIST [--seed N] [--cases N] [--keep FILE] | second bench-image | second self-test");
+    ExitCode::FAILURE
+}
