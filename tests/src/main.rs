@@ -4,6 +4,7 @@
 //!   second bench-image                                       write bench image A
 //!   second self-test                                         show that the comparer notices wrong answers
 
+mod accepted;
 mod badcases;
 mod bench;
 mod bytes;
@@ -11,6 +12,7 @@ mod capability;
 mod cases;
 mod compare;
 mod conditions;
+mod guarded;
 mod image;
 mod listings;
 mod master;
@@ -20,6 +22,8 @@ mod protocol;
 mod rng;
 mod run;
 mod selftest;
+mod spoiler;
+mod strict;
 mod tally;
 mod walk;
 
@@ -34,9 +38,7 @@ use tally::Tally;
 /// The capabilities that are tested. Each is a module of its own and one line here.
 #[rustfmt::skip]
 fn capabilities() -> Vec<Capability> {
-    vec![
-        plain::capability(),
-    ]
+    vec![plain::capability(), guarded::capability()]
 }
 
 /// The least number of cases of a run that does not say how many.

@@ -6,7 +6,7 @@ use mathlib.Core.List.{List, map, List·Memᴰ}
 use mathlib.Core.Logic.{_↔_}
 use mathlib.Core.Bool.{Bool, true, false}
 use Rattle.component.specs.Component.{Component}
-use Rattle.walk.specs.Walk.{Entry, placesBelow, plainListing}
+use Rattle.walk.specs.Walk.{Entry, placesBelow, pickOf, listing, plainListing, guardedListing}
 use Rattle.walk.specs.Lookup.{Answer, refused, gives, bears, plainLookup}
 use Rattle.walk.specs.declared.Taken.{Taken}
 use Rattle.walk.proofs.Rounding.{Rounded, rounded}
@@ -18,21 +18,28 @@ use Rattle.master.specs.Master.{master}
 use Rattle.master.specs.declared.Master.{Master}
 use Rattle.master.specs.declared.Master.the-variants.{Read}
 use Rattle.master.proofs.Facts.{Known, known, align-power}
-use Rattle.region.specs.Region.{plainStep as stepIn, stepFits, takenAt, foundAt, contentFound, Walked}
+use Rattle.region.specs.Region.{stepIn, stepFits, takenAt, foundAt, contentFound, Walked}
 use Rattle.region.specs.declared.Found.the-variants.{At}
 use Rattle.region.specs.declared.Found.the-variants.{Refused as FoundRefused}
 use Rattle.region.proofs.Listing as Listing
-use Rattle.cbfs.specs.Cbfs.{stepOn, plainStep, plainFind, plainContent}
+use Rattle.cbfs.specs.Cbfs.{stepOn, stepOf, plainStep, guardedStep, plainFind, plainContent}
 
 -- An image i that is read, and its region g.
 module _ (i : List ℕ) (g : Region) (read : master i ≡ Read g) where
   facts : Known i g
   facts = known i g read
 
+  listing-is-steps : (w : Bool) → Walked (stepOf w i) (g .start) (map (takenAt i g) (listing (pickOf w (bytesOf i g) (g .align)) (bytesOf i g) (g .align)))
+  listing-is-steps w = subst (λ (m : Master). Walked (λ n. stepOn m (λ h. stepIn w i h n)) (g .start) (map (takenAt i g) (listing (pickOf w (bytesOf i g) (g .align)) (bytesOf i g) (g .align)))) (sym read)
+      (Listing.listing-walked w i g (omega (arith, facts .least)) (facts .forward) (facts .inside))
+
   -- The plain listing is the plain steps from offset to none left, each next one from the number that the last one gave.
   pub plain-listing-is-steps : Walked (plainStep i) (g .start) (map (takenAt i g) (plainListing (bytesOf i g) (g .align)))
-  plain-listing-is-steps = subst (λ (m : Master). Walked (λ n. stepOn m (λ h. stepIn i h n)) (g .start) (map (takenAt i g) (plainListing (bytesOf i g) (g .align)))) (sym read)
-      (Listing.listing-walked false i g (omega (arith, facts .least)) (facts .forward) (facts .inside))
+  plain-listing-is-steps = listing-is-steps false
+
+  -- The guarded listing likewise.
+  pub guarded-listing-is-steps : Walked (guardedStep i) (g .start) (map (takenAt i g) (guardedListing (bytesOf i g) (g .align)))
+  guarded-listing-is-steps = listing-is-steps true
 
   -- The plain lookup gives the first bearer in the plain listing, its place told from the image's start, and its content.
   pub plain-lookup-gives-first : (name : List ℕ) (t : Taken) → plainFind i name ≡ At t

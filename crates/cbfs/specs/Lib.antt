@@ -1,1 +1,2 @@
 pub mod Cbfs
+pub mod Demand3

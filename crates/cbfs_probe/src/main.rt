@@ -59,8 +59,16 @@ fn master_header(out: &mut Out, used: usize, image: &[u8]) -> usize
     }
 }
 
-// The plain steps from a number. An image has fewer components than bytes, so the bound on the count is never met.
-fn plain_steps(out: &mut Out, used: usize, image: &[u8], start: usize) -> usize
+// A step of either walk.
+fn step(guarded: bool, image: &[u8], from: usize) -> Step {
+    if guarded {
+        return cbfs::guarded_step(image, from);
+    }
+    cbfs::plain_step(image, from)
+}
+
+// The steps of a walk from a number. An image has fewer components than bytes, so the bound on the count is never met.
+fn steps(out: &mut Out, used: usize, guarded: bool, image: &[u8], start: usize) -> usize
     requires { ⌜ used ≤ 65536 ⌝ }
     ensures { λ r. ⌜ r ≤ 65536 ⌝ }
 {
@@ -68,7 +76,7 @@ fn plain_steps(out: &mut Out, used: usize, image: &[u8], start: usize) -> usize
     let mut from = start;
     let mut count = 0;
     while count < image.len() {
-        let s = cbfs::plain_step(image, from);
+        let s = step(guarded, image, from);
         match s {
             Step::Took(t) => {
                 at = component(out, at, b"component", image, t);
@@ -89,24 +97,24 @@ fn plain_steps(out: &mut Out, used: usize, image: &[u8], start: usize) -> usize
     output::line_end(out, at)
 }
 
-// Operation p: the listing by the plain steps.
-fn plain_listing(out: &mut Out, used: usize, image: &[u8]) -> usize
+// Operations p and g: the listing by the steps of a walk.
+fn listing(out: &mut Out, used: usize, guarded: bool, image: &[u8]) -> usize
     requires { ⌜ used ≤ 65536 ⌝ }
     ensures { λ r. ⌜ r ≤ 65536 ⌝ }
 {
     let m = cbfs::region(image);
     match m {
-        Master::Read(r) => plain_steps(out, used, image, r.start),
+        Master::Read(r) => steps(out, used, guarded, image, r.start),
         Master::Refused(r) => refused(out, used, r, 0),
     }
 }
 
-// Operation i: one plain step.
-fn plain_step(out: &mut Out, used: usize, image: &[u8], from: usize) -> usize
+// Operations i and j: one step.
+fn one_step(out: &mut Out, used: usize, guarded: bool, image: &[u8], from: usize) -> usize
     requires { ⌜ used ≤ 65536 ⌝ }
     ensures { λ r. ⌜ r ≤ 65536 ⌝ }
 {
-    let s = cbfs::plain_step(image, from);
+    let s = step(guarded, image, from);
     match s {
         Step::Took(t) => {
             let mut at = component(out, used, b"taken", image, t);
@@ -118,13 +126,11 @@ fn plain_step(out: &mut Out, used: usize, image: &[u8], from: usize) -> usize
     }
 }
 
-// Operation l: the plain lookup.
-fn plain_lookup(out: &mut Out, used: usize, image: &[u8], name: &[u8]) -> usize
+// What a lookup found, and the content that it gave.
+fn found(out: &mut Out, used: usize, f: Found, content: &[u8]) -> usize
     requires { ⌜ used ≤ 65536 ⌝ }
     ensures { λ r. ⌜ r ≤ 65536 ⌝ }
 {
-    let content = cbfs::plain_lookup(image, name);
-    let f = cbfs::plain_find(image, name);
     match f {
         Found::At(t) => {
             let h = t.header;
@@ -136,6 +142,80 @@ fn plain_lookup(out: &mut Out, used: usize, image: &[u8], name: &[u8]) -> usize
         }
         Found::Refused(r) => refused(out, used, r, rest_of(content)),
     }
+}
+
+// Operations l and k: the lookup of a walk.
+fn lookup(out: &mut Out, used: usize, guarded: bool, image: &[u8], name: &[u8]) -> usize
+    requires { ⌜ used ≤ 65536 ⌝ }
+    ensures { λ r. ⌜ r ≤ 65536 ⌝ }
+{
+    if guarded {
+        return found(
+            out,
+            used,
+            cbfs::guarded_find(image, name),
+            cbfs::guarded_lookup(image, name),
+        );
+    }
+    found(
+        out,
+        used,
+        cbfs::plain_find(image, name),
+        cbfs::plain_lookup(image, name),
+    )
+}
+
+// 0 where every number from `from` on is 0, else 1.
+fn unused(numbers: &[usize], from: usize) -> usize {
+    let mut i = from;
+    while i < numbers.len() {
+        if numbers[i] != 0 {
+            return 1;
+        }
+        i += 1;
+    }
+    0
+}
+
+// The first n places.
+fn put_places(out: &mut Out, used: usize, places: &[usize], n: usize) -> usize
+    requires { ⌜ used ≤ 65536 ⌝ }
+    ensures { λ r. ⌜ r ≤ 65536 ⌝ }
+{
+    let mut at = used;
+    let mut i = 0;
+    while i < places.len() {
+        if n <= i {
+            break;
+        }
+        at = output::number(out, at, places[i]);
+        i += 1;
+    }
+    at
+}
+
+// Operation c: the strict check.
+fn strict_check(out: &mut Out, used: usize, image: &[u8]) -> usize
+    requires { ⌜ used ≤ 65536 ⌝ }
+    ensures { λ r. ⌜ r ≤ 65536 ⌝ }
+{
+    let d = cbfs::strict_check(image);
+    let places = d.places;
+    if d.number != 0 {
+        let r = Refusal {
+            number: d.number,
+            place: d.place,
+        };
+        if d.count != 0 {
+            return refused(out, used, r, 1);
+        }
+        return refused(out, used, r, unused(&places, 0));
+    }
+    let mut at = output::word(out, used, b"accepted");
+    at = output::number(out, at, d.count);
+    at = output::number(out, at, unused(&places, d.count));
+    at = put_places(out, at, &places, d.count);
+    output::line_end(out, at)
 }
 
 // The last field of a refusal: 0 where the content is empty, else 1.
@@ -169,9 +249,13 @@ fn answer(out: &mut Out, used: usize, op: u8, image: &[u8], name: &[u8], n: usiz
 {
     match op {
         b'm' => answered(master_header(out, used, image)),
-        b'p' => answered(plain_listing(out, used, image)),
-        b'i' => answered(plain_step(out, used, image, n)),
-        b'l' => answered(plain_lookup(out, used, image, name)),
+        b'p' => answered(listing(out, used, false, image)),
+        b'i' => answered(one_step(out, used, false, image, n)),
+        b'l' => answered(lookup(out, used, false, image, name)),
+        b'g' => answered(listing(out, used, true, image)),
+        b'j' => answered(one_step(out, used, true, image, n)),
+        b'k' => answered(lookup(out, used, true, image, name)),
+        b'c' => answered(strict_check(out, used, image)),
         _ => bad_case(out, used),
     }
 }

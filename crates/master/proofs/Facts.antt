@@ -11,11 +11,13 @@ use lib.Dec.{leb, eqb}
 use lib.Count.{ones}
 use borrow.Author.Tests.{leb-true, eqb-true, eqb-false}
 use Rattle.terms.specs.Terms.{refusedBy}
+use Rattle.number.specs.Number.{be, le}
 use Rattle.number.specs.Tests.{every}
+use Rattle.number.proofs.Digits.{be-same, le-same}
 use Rattle.number.proofs.Passing.{passes}
 use Rattle.terms.specs.Refusals.{Test, test, firstFailed}
 use Rattle.terms.specs.declared.Region.{Region}
-use Rattle.master.specs.Master.{romsize, bootblocksize, align, offset, headerAt, lengthFits, addressFits, bootblockFits, alignFits, offsetFits, tests, refusal, regionOf, master}
+use Rattle.master.specs.Master.{address, back, field, romsize, bootblocksize, align, offset, headerAt, lengthFits, addressFits, bootblockFits, alignFits, offsetFits, tests, refusal, regionOf, master}
 use Rattle.master.specs.declared.Master.the-variants.{Read, Refused}
 use Rattle.master.proofs.Power.{one-bit}
 
@@ -54,7 +56,9 @@ pub record Known (i : List ℕ) (g : Region) : Type 0 where
   pub one : ones (g .align) ≡ 1
   pub least : 16 ≤ g .align
   pub most : g .align ≤ 65536
+  -- The region ends before the header, whose 32 bytes end before P.
   pub before : g .end ≤ headerAt i
+  pub header : headerAt i + 36 ≤ length i
 
 pub known : (i : List ℕ) (g : Region) → master i ≡ Read g → Known i g
 unfolding tests refusal lengthFits addressFits bootblockFits alignFits offsetFits headerAt
@@ -68,6 +72,7 @@ known i g e = subst (Known i) (r .1) (record {
   least = leb-true _ _ (a 1);
   most = leb-true _ _ (a 2);
   before = omega (arith, s, leb-true (length i - bootblocksize i) (headerAt i) (b 1));
+  header = omega (arith, leb-true (address i) 0xFFFFFFDC (d 1), leb-true (back i) (length i) (d 2));
 })
   where
     r : (refusal i ≡ 0) × (regionOf i ≡ g)
@@ -78,6 +83,9 @@ known i g e = subst (Known i) (r .1) (record {
 
     l : (k : ℕ) → getD (leb 64 (length i) ∷ leb (length i) 16777216 ∷ []) k true ≡ true
     l k = passes k (leb 64 (length i) ∷ leb (length i) 16777216 ∷ []) (p 0)
+
+    d : (k : ℕ) → getD (leb 0xFFFF0000 (address i) ∷ leb (address i) 0xFFFFFFDC ∷ leb (back i) (length i) ∷ []) k true ≡ true
+    d k = passes k (leb 0xFFFF0000 (address i) ∷ leb (address i) 0xFFFFFFDC ∷ leb (back i) (length i) ∷ []) (p 1)
 
     s : romsize i ≡ length i
     s = eqb-true _ _ (p 4)
@@ -94,3 +102,22 @@ known i g e = subst (Known i) (r .1) (record {
 -- An align that is read is a power of two, 2^4 to 2^16.
 pub align-power : (i : List ℕ) (g : Region) → master i ≡ Read g → (k : ℕ) × (g .align ≡ 2 ^ k)
 align-power i g e = one-bit (g .align) (known i g e .one)
+
+-- An image that has the same bytes from the region's end on has the same region: the header and P stand there.
+module _ (i i′ : List ℕ) (g : Region) (read : master i ≡ Read g) (alike : length i′ ≡ length i) (same : (j : ℕ) → g .end ≤ j → getD i′ j 0 ≡ getD i j 0) where
+  facts : Known i g
+  facts = known i g read
+
+  same-address : address i′ ≡ address i
+  same-address = rw alike (le-same 4 i i′ (length i - 4) (λ j l k. same j (omega (arith, facts .before, facts .header))))
+
+  same-header : headerAt i′ ≡ headerAt i
+  unfolding headerAt
+  same-header = rw (same-address, alike)
+
+  same-field : (k : ℕ) → field i′ k ≡ field i k
+  same-field k = rw same-header (be-same 4 i i′ (headerAt i + k) (λ j l m. same j (omega (arith, facts .before))))
+
+  pub same-region : master i′ ≡ Read g
+  unfolding master refusal tests lengthFits addressFits bootblockFits
+  same-region = rw (same-field 0, same-field 4, same-field 8, same-field 12, same-field 16, same-field 20, same-header, same-address, alike) read

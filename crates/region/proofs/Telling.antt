@@ -10,14 +10,13 @@ use Rattle.number.specs.Bytes.{partOf}
 use Rattle.component.specs.Component.{Component, judge, judged, headerOf, contentOf}
 use Rattle.component.specs.declared.Header.{Header}
 use Rattle.component.proofs.Judging.{part-content}
-use Rattle.walk.specs.Lists.{keep}
-use Rattle.walk.specs.Walk.{Entry, plain, pickOf, step, next, listing, takenOf, told}
-use Rattle.walk.specs.Lookup.{Answer, refused, gives, bears, foremost, found}
+use Rattle.walk.specs.Walk.{Entry, pickOf, step, next, listing, takenOf, told}
+use Rattle.walk.specs.Lookup.{Answer, refused, gives, found}
 use Rattle.walk.specs.declared.Taken.{Taken}
 use Rattle.walk.specs.declared.Step.the-variants.{Took as WalkTook, NoneLeft as WalkNoneLeft}
 use Rattle.walk.specs.declared.Found.the-variants.{At as WalkAt, Refused as WalkRefused}
 use Rattle.walk.proofs.Lookups.{Stands, stands, told-some, told-none}
-use Rattle.walk.proofs.Members.{Given, given, mem-keep, next-within, first-member, found-some, found-none}
+use Rattle.walk.proofs.Members.{Given, given, next-within, found-some, found-none}
 use Rattle.terms.specs.Terms.{bytesOf, refusedBy}
 use Rattle.terms.specs.declared.Region.{Region}
 use Rattle.terms.specs.declared.Refusal.{Refusal}
@@ -102,7 +101,3 @@ module _ (i : List ℕ) (g : Region) where
   pub step-fit : (pick : ℕ → Option Component) (n : ℕ) {b : Bool} {x : Step} → b ≡ stepFits g n → b ≡ true → x ≡ stepped i g (step pick (bytesOf i g) (g .align) (n - g .start)) → x ≡ stepBy pick i g n
   unfolding stepBy
   step-fit pick n e f r = rw (← e, f) r
-
--- The plain lookup gives one of the plain listing.
-pub plain-member : (r : List ℕ) (a : ℕ) (name : List ℕ) (e : Entry) → foremost (keep (bears name) (listing (plain r) r a)) ≡ gives e → List·Memᴰ e (listing (plain r) r a)
-plain-member r a name e q = mem-keep (bears name) (listing (plain r) r a) e (first-member (keep (bears name) (listing (plain r) r a)) e q) .0

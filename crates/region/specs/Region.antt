@@ -1,4 +1,4 @@
--- The calls over an image i and a region g of it (document 01, "Components and the two walks", and refusals 9 and 10).
+-- The calls over an image i and a region g of it (document 01, "Components and the two walks", and refusals 9, 10 and 11).
 -- Places are told from the image's start. The numbers of a region may be any: one that does not fit the image is empty.
 use Prim.Native.Nat.{ℕ, _+_, _-_, _%_}
 use mathlib.Core.Path.{_≡_}
@@ -9,8 +9,8 @@ use lib.ListN.{length, drop}
 use lib.Dec.{leb, eqb}
 use Rattle.number.specs.Tests.{every}
 use Rattle.component.specs.Component.{Component, judge, nameOf, contentOf, headerOf}
-use Rattle.walk.specs.Walk.{Entry, Pick, plain, step, next}
-use Rattle.walk.specs.Lookup.{Answer, refused, gives, plainLookup}
+use Rattle.walk.specs.Walk.{Entry, Pick, pickOf, step, next}
+use Rattle.walk.specs.Lookup.{Answer, refused, gives, lookupOf}
 use Rattle.walk.specs.declared.Taken.{Taken}
 use Rattle.terms.specs.Terms.{bytesOf, refusedBy}
 use Rattle.terms.specs.declared.Region.{Region}
@@ -38,8 +38,9 @@ stepped i g (some t) = Took (takenAt i g t)
 unfoldable pub stepBy : Pick → List ℕ → Region → ℕ → Step
 stepBy pick i g n = cond (stepFits g n) (stepped i g (step pick (bytesOf i g) (g .align) (n - g .start))) (StepRefused (refusedBy 9))
 
-abbrev pub plainStep : List ℕ → Region → ℕ → Step
-plainStep i g n = stepBy (plain (bytesOf i g)) i g n
+-- The step of the walk that w chooses: the guarded one where it is true.
+abbrev pub stepIn : Bool → List ℕ → Region → ℕ → Step
+stepIn w i g n = stepBy (pickOf w (bytesOf i g) (g .align)) i g n
 
 -- What a lookup answers, and the content that it gives: empty on a refusal.
 
@@ -51,11 +52,13 @@ abbrev pub contentFound : Answer → List ℕ
 contentFound (refused n) = []
 contentFound (gives t) = t .component .content
 
-abbrev pub plainFind : List ℕ → Region → List ℕ → Found
-plainFind i g name = foundAt i g (plainLookup (bytesOf i g) (g .align) name)
+-- The lookup of the walk that w chooses.
 
-abbrev pub plainContent : List ℕ → Region → List ℕ → List ℕ
-plainContent i g name = contentFound (plainLookup (bytesOf i g) (g .align) name)
+abbrev pub findIn : Bool → List ℕ → Region → List ℕ → Found
+findIn w i g name = foundAt i g (lookupOf w (bytesOf i g) (g .align) name)
+
+abbrev pub contentIn : Bool → List ℕ → Region → List ℕ → List ℕ
+contentIn w i g name = contentFound (lookupOf w (bytesOf i g) (g .align) name)
 
 -- The part of the image from a place up to the region's end; none where the number is no place of the region.
 unfoldable pub fromPlace : List ℕ → Region → ℕ → List ℕ

@@ -1,4 +1,4 @@
-// The calls over an image and a region of it, by value: places told from the image's start, and refusals 9 and 10.
+// The calls over an image and a region of it, by value: places told from the image's start, and refusals 9, 10 and 11.
 // Every function takes any image and any numbers; a region that does not fit the image is empty.
 use terms::Refusal;
 use terms::Region;
@@ -6,7 +6,7 @@ use walk::Taken;
 ghost use mathlib.Core.Path.{_≡_};
 ghost use Prim.Native.Nat.{_+_, _≤_};
 ghost use Rattle.terms.specs.Terms.{refusedBy};
-ghost use Rattle.region.specs.Region.{stepFits, plainStep, plainFind, plainContent, fromPlace, nameAt, contentAt};
+ghost use Rattle.region.specs.Region.{stepFits, stepIn, findIn, contentIn, fromPlace, nameAt, contentAt};
 ghost use Rattle.number.specs.Bytes.{partOf};
 ghost use lib.ListN.{drop};
 
@@ -53,15 +53,16 @@ fn shift(start: usize, t: Taken) -> Taken
     }
 }
 
-// The first component that a plain walk begun at `from` takes.
-pub fn plain_step(image: &[u8], region: Region, from: usize) -> Step
-    ensures { λ s. ⌜ s ≡ plainStep (now (image .entry)) region from ⌝ }
+// The first component that a walk begun at `from` takes, the guarded walk or the plain one; refusal 9 where `from` is no number to step from.
+pub fn step_in(guarded: bool, image: &[u8], region: Region, from: usize) -> Step
+    ensures { λ s. ⌜ s ≡ stepIn guarded (now (image .entry)) region from ⌝ }
     ensures kept { λ _. ⌜ now (image .exit) ≡ now (image .entry) ⌝ }
 {
     if !step_fits(region, from) {
         return Step::Refused(terms::refused(9));
     }
-    let s = walk::plain_step(
+    let s = walk::walk_step(
+        guarded,
         terms::bytes(image, region),
         region.align,
         from - region.start,
@@ -72,12 +73,12 @@ pub fn plain_step(image: &[u8], region: Region, from: usize) -> Step
     }
 }
 
-// The first bearer of the name in the plain listing, or refusal 10.
-pub fn plain_find(image: &[u8], region: Region, name: &[u8]) -> Found
-    ensures { λ f. ⌜ f ≡ plainFind (now (image .entry)) region (now (name .entry)) ⌝ }
+// The only bearer of the name in the guarded listing, or the first in the plain one; or refusal 10 or 11.
+pub fn find_in(guarded: bool, image: &[u8], region: Region, name: &[u8]) -> Found
+    ensures { λ f. ⌜ f ≡ findIn guarded (now (image .entry)) region (now (name .entry)) ⌝ }
     ensures kept { λ _. ⌜ (now (image .exit) ≡ now (image .entry)) × (now (name .exit) ≡ now (name .entry)) ⌝ }
 {
-    let f = walk::plain_find(terms::bytes(image, region), region.align, name);
+    let f = walk::find(guarded, terms::bytes(image, region), region.align, name);
     match f {
         walk::Found::At(t) => Found::At(shift(region.start, t)),
         walk::Found::Refused(n) => Found::Refused(terms::refused(n)),
@@ -102,13 +103,13 @@ fn from_place(image: &[u8], region: Region, place: usize) -> &[u8]
     number::rest(terms::bytes(image, region), place - region.start)
 }
 
-// The content of the first bearer of the name in the plain listing, as a part of the image; empty on a refusal.
-pub fn plain_lookup<'a, 'b>(image: &'a [u8], region: Region, name: &'b [u8]) -> &'a [u8]
-    ensures { λ r. ⌜ now r ≡ plainContent (now (image .entry)) region (now (name .entry)) ⌝ }
+// The content of that bearer, as a part of the image; empty on a refusal.
+pub fn lookup_in<'a, 'b>(guarded: bool, image: &'a [u8], region: Region, name: &'b [u8]) -> &'a [u8]
+    ensures { λ r. ⌜ now r ≡ contentIn guarded (now (image .entry)) region (now (name .entry)) ⌝ }
     ensures kept { λ _. ⌜ (now (image .exit) ≡ now (image .entry)) × (now (name .exit) ≡ now (name .entry)) ⌝ }
 {
     let bytes = terms::bytes(image, region);
-    let f = walk::plain_find(bytes, region.align, name);
+    let f = walk::find(guarded, bytes, region.align, name);
     match f {
         walk::Found::At(t) => content_of(bytes, t),
         walk::Found::Refused(_) => &image[0..0],

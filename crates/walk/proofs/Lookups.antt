@@ -1,11 +1,11 @@
 -- Laws of listings and bearers, for a loop that takes one step after the other. g tells the guarded walk.
-use Prim.Native.Nat.{ℕ, suc, _+_, _-_, _≤_, _<_}
+use Prim.Native.Nat.{ℕ, zero, suc, _+_, _-_, _≤_, _<_}
 use native.Mathlib.Omega.{arith}
 use native.Mathlib.Decide.{decLt}
 use mathlib.Core.Path.{_≡_, refl, sym, ap, subst, _∙_}
 use mathlib.Core.List.{List, [], _∷_}
 use mathlib.Core.Bool.{Bool, true, false, cond}
-use mathlib.Core.Option.{Option, some, none, Option·none-ne-some}
+use mathlib.Core.Option.{Option, some, none, Option·none-ne-some, Option·some-injective}
 use lib.ListN.{length, drop, length-drop}
 use Rattle.number.specs.Bytes.{partOf, eqBytes}
 use Rattle.number.proofs.Splice.{part-in}
@@ -13,7 +13,7 @@ use Rattle.component.specs.Component.{Component, span, judge}
 use Rattle.component.proofs.Judging.{judge-fits, judge-name}
 use Rattle.walk.specs.Lists.{keep}
 use Rattle.walk.specs.Walk.{Entry, Pick, end, plain, guarded, pickOf, step, onward, next, listingFrom, takenOf, told}
-use Rattle.walk.specs.Lookup.{bears, bearersFrom, firstOf, foremost, found}
+use Rattle.walk.specs.Lookup.{bears, bearersFrom, firstOf, foremost, only, found}
 use Rattle.walk.specs.declared.Taken.{Taken}
 use Rattle.walk.specs.declared.Step.the-variants.{Took, NoneLeft}
 use Rattle.walk.specs.declared.Found.the-variants.{At, Refused}
@@ -80,7 +80,7 @@ module _ (g : Bool) (r : List ℕ) (a n : ℕ) where
     unfolding bearersFrom keep
     bearers-end s = rw (rest-none (pickOf g r a) r a n s)
 
-    bearers-here : (e : Entry) → step (pickOf g r a) r a n ≡ some e → bearersFrom (pickOf g r a) r a name n ≡ cond (bears name e) (e ∷ bearersFrom (pickOf g r a) r a name (next r a e)) (bearersFrom (pickOf g r a) r a name (next r a e))
+    pub bearers-here : (e : Entry) → step (pickOf g r a) r a n ≡ some e → bearersFrom (pickOf g r a) r a name n ≡ cond (bears name e) (e ∷ bearersFrom (pickOf g r a) r a name (next r a e)) (bearersFrom (pickOf g r a) r a name (next r a e))
     unfolding bearersFrom keep
     bearers-here e s = let pos = step-pos e s in rw (rest-some (pickOf g r a) r a pos (pick-fits g r a pos) n e s)
 
@@ -122,3 +122,64 @@ pub first-missing : (r : List ℕ) (a : ℕ) (l : List Entry) → told r a (firs
 unfolding foremost
 first-missing r a [] e = refl
 first-missing r a (x ∷ l) e = let z : _≡_ {A = ℕ} 0 1 = cc in absurd (omega arith)
+
+-- The bearers from n on are the first one and those from the number that it gives on.
+module _ (g : Bool) (r : List ℕ) (a : ℕ) (name : List ℕ) where
+  abbrev After : ℕ → Type 0
+  After n = (e : Entry) → firstOf (bearersFrom (pickOf g r a) r a name n) ≡ some e → bearersFrom (pickOf g r a) r a name n ≡ e ∷ bearersFrom (pickOf g r a) r a name (next r a e)
+
+  after-one : (n : ℕ) → ((m : ℕ) → n < m → After m) → After n
+  after-one n ih e f = by (step (pickOf g r a) r a n) refl
+    where
+      same : (x : Entry) (l : List Entry) → bearersFrom (pickOf g r a) r a name n ≡ x ∷ l → x ≡ e
+      same x l q = Option·some-injective x e (ap firstOf (sym q) ∙ f)
+
+      go : (x : Entry) → step (pickOf g r a) r a n ≡ some x → (b : Bool) → bears name x ≡ b
+          → bearersFrom (pickOf g r a) r a name n ≡ cond b (x ∷ bearersFrom (pickOf g r a) r a name (next r a x)) (bearersFrom (pickOf g r a) r a name (next r a x))
+          → bearersFrom (pickOf g r a) r a name n ≡ e ∷ bearersFrom (pickOf g r a) r a name (next r a e)
+      go x s true b q = q ∙ ap (λ (y : Entry). y ∷ bearersFrom (pickOf g r a) r a name (next r a y)) (same x _ q)
+      go x s false b q = q ∙ ih (next r a x) (stands g r a n x s .later) e (ap firstOf (sym q) ∙ f)
+
+      by : (o : Option Entry) → step (pickOf g r a) r a n ≡ o → bearersFrom (pickOf g r a) r a name n ≡ e ∷ bearersFrom (pickOf g r a) r a name (next r a e)
+      by none s = absurd (Option·none-ne-some e (ap firstOf (sym (bearers-end g r a n name s)) ∙ f))
+      by (some x) s = go x s (bears name x) refl (bearers-here g r a n name x s)
+
+  after-from : (d n : ℕ) → length r < n + d → After n
+  after-from zero n h e f = absurd (Option·none-ne-some e (ap firstOf (sym (bearers-end g r a n name (step-past (pickOf g r a) r a n (omega arith)))) ∙ f))
+  after-from (suc d) n h e f = after-one n (λ m l. after-from d m (omega arith)) e f
+
+  pub bearers-after : (n : ℕ) → After n
+  bearers-after n = after-from (suc (length r)) n (omega arith)
+
+  -- The guarded lookup, by the first bearer and by the first one after it.
+
+  pub only-missing : told r a (firstOf (bearersFrom (pickOf g r a) r a name 0)) ≡ NoneLeft → Refused 10 ≡ found r a (only (bearersFrom (pickOf g r a) r a name 0))
+  unfolding only
+  only-missing s = go (bearersFrom (pickOf g r a) r a name 0) s
+    where
+      go : (l : List Entry) → told r a (firstOf l) ≡ NoneLeft → Refused 10 ≡ found r a (only l)
+      go [] s = refl
+      go (x ∷ l) s = let z : _≡_ {A = ℕ} 0 1 = cc in absurd (omega arith)
+
+  module _ (t : Taken) (s : told r a (firstOf (bearersFrom (pickOf g r a) r a name 0)) ≡ Took t) where
+    twice : (e : Entry) → takenOf r a e ≡ t → (l : List Entry) → told r a (firstOf l) ≡ NoneLeft → At t ≡ found r a (only (e ∷ l))
+    unfolding only
+    twice e q [] u = ap At (sym q)
+    twice e q (x ∷ l) u = let z : _≡_ {A = ℕ} 0 1 = cc in absurd (omega arith)
+
+    more : (e : Entry) (l : List Entry) (v : Taken) → told r a (firstOf l) ≡ Took v → Refused 11 ≡ found r a (only (e ∷ l))
+    unfolding only
+    more e [] v u = let z : _≡_ {A = ℕ} 0 1 = cc in absurd (omega arith)
+    more e (x ∷ l) v u = refl
+
+    pub only-found : told r a (firstOf (bearersFrom (pickOf g r a) r a name (t .next))) ≡ NoneLeft → At t ≡ found r a (only (bearersFrom (pickOf g r a) r a name 0))
+    only-found u = let (e, f, q) = told-some r a (firstOf (bearersFrom (pickOf g r a) r a name 0)) t s in go e f q
+      where
+        go : (e : Entry) → firstOf (bearersFrom (pickOf g r a) r a name 0) ≡ some e → takenOf r a e ≡ t → At t ≡ found r a (only (bearersFrom (pickOf g r a) r a name 0))
+        go e f q = rw (bearers-after 0 e f) (twice e q (bearersFrom (pickOf g r a) r a name (next r a e)) (ap (λ (x : Taken). told r a (firstOf (bearersFrom (pickOf g r a) r a name (x .next)))) q ∙ u))
+
+    pub only-twice : (v : Taken) → told r a (firstOf (bearersFrom (pickOf g r a) r a name (t .next))) ≡ Took v → Refused 11 ≡ found r a (only (bearersFrom (pickOf g r a) r a name 0))
+    only-twice v u = let (e, f, q) = told-some r a (firstOf (bearersFrom (pickOf g r a) r a name 0)) t s in go e f q
+      where
+        go : (e : Entry) → firstOf (bearersFrom (pickOf g r a) r a name 0) ≡ some e → takenOf r a e ≡ t → Refused 11 ≡ found r a (only (bearersFrom (pickOf g r a) r a name 0))
+        go e f q = rw (bearers-after 0 e f) (more e (bearersFrom (pickOf g r a) r a name (next r a e)) v (ap (λ (x : Taken). told r a (firstOf (bearersFrom (pickOf g r a) r a name (x .next)))) q ∙ u))

@@ -11,8 +11,8 @@ use mathlib.Core.Option.{Option, some, none}
 use lib.ListN.{length, drop}
 use Rattle.component.specs.Component.{Component, span, judge}
 use Rattle.walk.specs.Lists.{keep}
-use Rattle.walk.specs.Walk.{Entry, placesBelow, end, onward, next, pickOf, listing, takenOf}
-use Rattle.walk.specs.Lookup.{Answer, refused, gives, bears, foremost, found}
+use Rattle.walk.specs.Walk.{Entry, placesBelow, end, onward, next, pickOf, listing, plainListing, guardedListing, takenOf}
+use Rattle.walk.specs.Lookup.{Answer, refused, gives, bears, foremost, only, lookupOf, found}
 use Rattle.walk.specs.declared.Taken.{Taken}
 use Rattle.walk.specs.declared.Found.the-variants.{At, Refused}
 use Rattle.walk.proofs.Places.{Place}
@@ -90,3 +90,15 @@ found-some r a (gives e) t q = (e, refl, (cc))
 pub found-none : (r : List ℕ) (a : ℕ) (o : Answer) (n : ℕ) → found r a o ≡ Refused n → o ≡ refused n
 found-none r a (refused m) n q = cc
 found-none r a (gives e) n q = let z : _≡_ {A = ℕ} 0 1 = cc in absurd (omega arith)
+
+-- The only one of a list is one of it.
+pub only-member : (l : List Entry) (e : Entry) → only l ≡ gives e → List·Memᴰ e l
+unfolding only
+only-member [] e q = let z : _≡_ {A = ℕ} 0 1 = cc in absurd (omega arith)
+only-member (x ∷ []) e q = List·Memᴰ·head {x = x} (cc)
+only-member (x ∷ y ∷ l) e q = let z : _≡_ {A = ℕ} 0 1 = cc in absurd (omega arith)
+
+-- What a lookup gives is one of its walk's listing, and bears the name.
+pub lookup-member : (w : Bool) (r : List ℕ) (a : ℕ) (name : List ℕ) (e : Entry) → lookupOf w r a name ≡ gives e → List·Memᴰ e (listing (pickOf w r a) r a) × (bears name e ≡ true)
+lookup-member true r a name e q = mem-keep (bears name) (guardedListing r a) e (only-member (keep (bears name) (guardedListing r a)) e q)
+lookup-member false r a name e q = mem-keep (bears name) (plainListing r a) e (first-member (keep (bears name) (plainListing r a)) e q)

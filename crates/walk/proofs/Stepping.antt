@@ -1,6 +1,6 @@
 -- A step by way of the hunt, for either walk: g tells the guarded one.
 use Prim.Native.Nat.{ℕ, zero, suc, _+_, _*_, _-_, _/_, _%_, _≤_, _<_, min}
-use native.Mathlib.Nat.{div-add-mod', mod-lt}
+use native.Mathlib.Nat.{div-add-mod', mod-lt, min-eq-right}
 use native.Mathlib.Omega.{arith}
 use native.Mathlib.Decide.{decLt}
 use mathlib.Core.Path.{_≡_, refl, sym, ap, subst, _∙_}
@@ -16,7 +16,7 @@ use Rattle.component.specs.declared.Judged.the-variants.{WellFormed, IllFormed}
 use Rattle.component.proofs.Judging.{judge-fits, judged-some}
 use Rattle.walk.specs.Walk.{Entry, Pick, placesBelow, carries, nextMagic, buried, plain, unless, guarded, pickOf, first, step, onward, told}
 use Rattle.walk.specs.declared.Step.the-variants.{Took}
-use Rattle.walk.proofs.Places.{below-unique}
+use Rattle.walk.proofs.Places.{below-ge, below-unique}
 use Rattle.walk.proofs.Hunting.{no-places, next-none, next-end, next-here, next-not, next-above, next-carries, by-places, buried-hunt}
 use Rattle.walk.proofs.Steps.{Fits, step-end, step-here, step-next}
 use Rattle.walk.proofs.Picks.{plain-fits, plain-none, guarded-none, guarded-fits}
@@ -36,6 +36,14 @@ onward-between r a n pos e =
     let q : placesBelow a n ≡ suc (n / a) = below-unique a pos n (suc (n / a)) (omega arith) (omega arith) in
     let m : n + (a - n % a) ≡ suc (n / a) * a = omega arith in
     rw (q, m)
+
+pub onward-none : (r : List ℕ) (a n : ℕ) → a ≡ 0 → 0 ≡ onward r a n
+unfolding onward
+onward-none r a n e = rw (e, no-places n) (omega arith)
+
+pub onward-past : (r : List ℕ) (a n : ℕ) → 0 < a → length r ≤ n → length r ≡ onward r a n
+unfolding onward
+onward-past r a n pos h = let g : n ≤ placesBelow a n * a = below-ge a pos n in sym (min-eq-right (omega arith))
 
 -- Without places nothing is taken.
 pub step-none : (pick : Pick) (r : List ℕ) (a n : ℕ) → a ≡ 0 → step pick r a n ≡ none

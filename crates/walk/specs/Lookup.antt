@@ -1,7 +1,7 @@
 -- Lookups by name (document 01, "Components and the two walks"). Any bytes may be asked for; an unfit name is borne by nobody.
 use Prim.Native.Nat.{ℕ}
 use mathlib.Core.List.{List, [], _∷_}
-use mathlib.Core.Bool.{Bool}
+use mathlib.Core.Bool.{Bool, true, false}
 use mathlib.Core.Option.{Option, some, none}
 use Rattle.number.specs.Bytes.{eqBytes}
 use Rattle.walk.specs.Lists.{keep}
@@ -40,6 +40,11 @@ plainLookup r a name = foremost (keep (bears name) (plainListing r a))
 -- Guarded lookup gives the only bearer in the guarded listing.
 abbrev pub guardedLookup : List ℕ → ℕ → List ℕ → Answer
 guardedLookup r a name = only (keep (bears name) (guardedListing r a))
+
+-- The lookup of the walk that the guard chooses.
+abbrev pub lookupOf : Bool → List ℕ → ℕ → List ℕ → Answer
+lookupOf true r a name = guardedLookup r a name
+lookupOf false r a name = plainLookup r a name
 
 -- The first of a list.
 abbrev pub firstOf : List Entry → Option Entry

@@ -8,7 +8,7 @@ ghost use Prim.Native.Nat.{_+_, _-_, _≤_, _<_, min};
 ghost use lib.ListN.{length, drop};
 ghost use Rattle.number.specs.Bytes.{partOf, eqBytes};
 ghost use Rattle.walk.specs.Walk.{nextMagic, onward as onwardOf, step as stepOf, told, pickOf, plain, guarded as guardedOf};
-ghost use Rattle.walk.specs.Lookup.{bearersFrom, firstOf, plainLookup, found};
+ghost use Rattle.walk.specs.Lookup.{bearersFrom, firstOf, plainLookup, guardedLookup, lookupOf, found};
 
 // A component that a walk has taken, and the number to go on from.
 pub struct Taken {
@@ -79,8 +79,9 @@ pub fn next_magic(r: &[u8], align: usize, from: usize, below: usize) -> usize
 }
 
 // The first place after p and below `below` that carries the magic, or else `below`.
-fn next_after(r: &[u8], align: usize, p: usize, below: usize) -> usize
+pub fn next_after(r: &[u8], align: usize, p: usize, below: usize) -> usize
     ensures { λ q. ⌜ q ≡ nextMagic (now (r .entry)) align (p + align) below ⌝ }
+    ensures kept { λ _. ⌜ now (r .exit) ≡ now (r .entry) ⌝ }
 {
     if below <= p {
         return below;
@@ -102,10 +103,16 @@ fn guard(guarded: bool, r: &[u8], align: usize, p: usize, e: usize) -> usize
 }
 
 // The first place at or after n, or else the region's end.
-fn onward(r: &[u8], align: usize, n: usize) -> usize
-    requires { ⌜ (0 < align) × (n ≤ length (now r)) ⌝ }
+pub fn onward(r: &[u8], align: usize, n: usize) -> usize
     ensures { λ q. ⌜ q ≡ onwardOf (now (r .entry)) align n ⌝ }
+    ensures kept { λ _. ⌜ now (r .exit) ≡ now (r .entry) ⌝ }
 {
+    if align == 0 {
+        return 0;
+    }
+    if r.len() <= n {
+        return r.len();
+    }
     let over = n % align;
     if over == 0 {
         return n;
@@ -117,8 +124,9 @@ fn onward(r: &[u8], align: usize, n: usize) -> usize
 }
 
 // A step of either walk. Each place is compared with the magic once: the hunt ends at the span's end or at the next candidate.
-fn walk_step(guarded: bool, r: &[u8], align: usize, from: usize) -> Step
+pub fn walk_step(guarded: bool, r: &[u8], align: usize, from: usize) -> Step
     ensures { λ s. ⌜ s ≡ told (now (r .entry)) align (stepOf (pickOf guarded (now (r .entry)) align) (now (r .entry)) align from) ⌝ }
+    ensures kept { λ _. ⌜ now (r .exit) ≡ now (r .entry) ⌝ }
 {
     let mut p = next_magic(r, align, from, r.len());
     while p < r.len() {
@@ -150,6 +158,14 @@ pub fn plain_step(r: &[u8], align: usize, from: usize) -> Step
     ensures kept { λ _. ⌜ now (r .exit) ≡ now (r .entry) ⌝ }
 {
     walk_step(false, r, align, from)
+}
+
+// The first component that a guarded walk begun at `from` takes.
+pub fn guarded_step(r: &[u8], align: usize, from: usize) -> Step
+    ensures { λ s. ⌜ s ≡ told (now (r .entry)) align (stepOf (guardedOf (now (r .entry)) align) (now (r .entry)) align from) ⌝ }
+    ensures kept { λ _. ⌜ now (r .exit) ≡ now (r .entry) ⌝ }
+{
+    walk_step(true, r, align, from)
 }
 
 // The component t of the region bears the name.
@@ -192,4 +208,33 @@ pub fn plain_find(r: &[u8], align: usize, name: &[u8]) -> Found
         Step::Took(t) => Found::At(t),
         Step::NoneLeft => Found::Refused(10),
     }
+}
+
+// The only bearer of the name in the guarded listing, or refusal 10 or 11.
+pub fn guarded_find(r: &[u8], align: usize, name: &[u8]) -> Found
+    ensures { λ f. ⌜ f ≡ found (now (r .entry)) align (guardedLookup (now (r .entry)) align (now (name .entry))) ⌝ }
+    ensures kept { λ _. ⌜ (now (r .exit) ≡ now (r .entry)) × (now (name .exit) ≡ now (name .entry)) ⌝ }
+{
+    let s = first_bearer(true, r, align, 0, name);
+    match s {
+        Step::NoneLeft => Found::Refused(10),
+        Step::Took(t) => {
+            let u = first_bearer(true, r, align, t.next, name);
+            match u {
+                Step::NoneLeft => Found::At(t),
+                Step::Took(_) => Found::Refused(11),
+            }
+        }
+    }
+}
+
+// The lookup of either walk.
+pub fn find(guarded: bool, r: &[u8], align: usize, name: &[u8]) -> Found
+    ensures { λ f. ⌜ f ≡ found (now (r .entry)) align (lookupOf guarded (now (r .entry)) align (now (name .entry))) ⌝ }
+    ensures kept { λ _. ⌜ (now (r .exit) ≡ now (r .entry)) × (now (name .exit) ≡ now (name .entry)) ⌝ }
+{
+    if guarded {
+        return guarded_find(r, align, name);
+    }
+    plain_find(r, align, name)
 }

@@ -35,7 +35,7 @@ said : (c : tie.After-s Inv-loop μ-loop) →
     let l = loop (c .before .before) in
     let a = start l .args in
     told (a .r .now) (a .align) (stepOf (pickOf (a .guarded) (a .r .now) (a .align)) (a .r .now) (a .align) (l .loop .n)) ≡ Took (c .s .given .0 .0)
-said c = sym (c .before .before .walk-step .ensures) ∙ c .s .given .1
+said c = sym (c .before .before .walk-step .ensures .0) ∙ c .s .given .1
 
 enum-told : tie.Need-enum-told Inv-loop μ-loop
 enum-told c = search needs
@@ -46,7 +46,7 @@ returns c =
     let l = loop w in
     let a = start l .args in
     let r = a .r .now in
-    let none = told-none r (a .align) _ (sym (w .walk-step .ensures) ∙ c .enum-told .given .1) in
+    let none = told-none r (a .align) _ (sym (w .walk-step .ensures .0) ∙ c .enum-told .given .1) in
     sym (ap (λ b. told r (a .align) (firstOf b)) (l .loop .inv ∙ bearers-end (a .guarded) r (a .align) (l .loop .n) (a .name .now) none))
 
 enum-known-s : tie.Need-enum-known-s Inv-loop μ-loop

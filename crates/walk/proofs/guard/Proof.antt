@@ -7,7 +7,7 @@ next-after-requires : tie.Need-next-after-requires
 next-after-requires c κs = search needs
 
 returns : tie.Need-returns
-returns c = rw (c .before .if1 .taken) (c .next-after .ensures)
+returns c = rw (c .before .if1 .taken) (c .next-after .ensures .0)
 
 returns-2 : tie.Need-returns-2
 returns-2 c = rw (c .if1 .left)

@@ -1,5 +1,5 @@
 use Prim.Native.Nat.{_+_, _<_}
-use mathlib.Core.Path.{sym}
+use mathlib.Core.Path.{refl, sym}
 use native.Mathlib.Omega.{arith}
 use Rattle.walk.proofs.Hunting.{next-past}
 use borrow.Author.Needs.{needs}
@@ -9,7 +9,7 @@ use Rattle.walk.proofs.next_after.Tie as tie
 returns : tie.Need-returns
 returns c =
     let a = c .before .before .args in
-    sym (next-past (a .r .now) (a .align) (a .p + a .align) (a .below) (omega arith))
+    (sym (next-past (a .r .now) (a .align) (a .p + a .align) (a .below) (omega arith)), refl)
 
 sub-if2 : tie.Need-sub-if2
 sub-if2 c = search needs
@@ -17,7 +17,7 @@ sub-if2 c = search needs
 returns-2 : tie.Need-returns-2
 returns-2 c =
     let a = c .before .before .before .args in
-    sym (next-past (a .r .now) (a .align) (a .p + a .align) (a .below) (omega arith))
+    (sym (next-past (a .r .now) (a .align) (a .p + a .align) (a .below) (omega arith)), refl)
 
 add-next-magic : tie.Need-add-next-magic
 add-next-magic c = search needs
@@ -26,7 +26,7 @@ next-magic-requires : tie.Need-next-magic-requires
 next-magic-requires c κs = search needs
 
 returns-3 : tie.Need-returns-3
-returns-3 c = c .next-magic .ensures .0
+returns-3 c = (c .next-magic .ensures .0, refl)
 
 pub next-after-spec : {M : Type 1} → statement M
 next-after-spec =

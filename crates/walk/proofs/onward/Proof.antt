@@ -1,50 +1,81 @@
-use Prim.Native.Nat.{_+_, _-_, _%_, _≤_}
-use lib.ListN.{length}
-use mathlib.Core.Path.{sym, _∙_}
+use Prim.Native.Nat.{_+_, _-_, _%_, _≤_, _<_}
+use mathlib.Core.Path.{refl, sym, _∙_}
 use native.Mathlib.Omega.{arith}
 use native.Mathlib.Nat.{mod-lt, min-eq-left, min-eq-right}
-use Rattle.walk.proofs.Stepping.{onward-place, onward-between}
+use lib.ListN.{length}
+use Rattle.walk.proofs.Stepping.{onward-none, onward-past, onward-place, onward-between}
 use borrow.Author.Needs.{needs}
 use Rattle.walk.proofs.onward.Statement.{statement}
 use Rattle.walk.proofs.onward.Tie as tie
 
-rem-over : tie.Need-rem-over
-rem-over c = search needs
+pos : (c : tie.Else1) → 0 < c .before .args .align
+pos c = let h = c .if1 .left in omega (arith, h)
 
 returns : tie.Need-returns
 returns c =
-    let s = c .before in
-    onward-place (s .args .r .now) (s .args .align) (s .args .n) (s .pre .0) (s .pre .1) (c .if1 .taken)
-
-sub-if2 : tie.Need-sub-if2
-sub-if2 c = search needs
-
-sub-if2-2 : tie.Need-sub-if2-2
-sub-if2-2 c =
-    let s = c .before in
-    omega (arith, mod-lt (s .args .n) (s .pre .0))
+    let a = c .before .args in
+    (onward-none (a .r .now) (a .align) (a .n) (c .if1 .taken), refl)
 
 returns-2 : tie.Need-returns-2
 returns-2 c =
-    let s = c .before .before in
-    let l : length (s .args .r .now) ≤ s .args .n + (s .args .align - s .args .n % s .args .align) = omega (arith, mod-lt (s .args .n) (s .pre .0)) in
-    sym (min-eq-right l) ∙ onward-between (s .args .r .now) (s .args .align) (s .args .n) (s .pre .0) (c .before .if1 .left)
+    let e = c .before in
+    let a = e .before .args in
+    (onward-past (a .r .now) (a .align) (a .n) (pos e) (c .if2 .taken), refl)
+
+rem-over : tie.Need-rem-over
+rem-over c = search needs
+
+returns-3 : tie.Need-returns-3
+returns-3 c =
+    let e = c .before .before in
+    let a = e .before .args in
+    (onward-place (a .r .now) (a .align) (a .n) (pos e) (omega arith) (c .if3 .taken), refl)
+
+sub-if4 : tie.Need-sub-if4
+sub-if4 c = search needs
+
+sub-if4-2 : tie.Need-sub-if4-2
+sub-if4-2 c =
+    let e = c .before .before in
+    let a = e .before .args in
+    omega (arith, mod-lt (a .n) (pos e))
+
+returns-4 : tie.Need-returns-4
+returns-4 c =
+    let e = c .before .before .before in
+    let a = e .before .args in
+    let m = mod-lt (a .n) (pos e) in
+    let l : length (a .r .now) ≤ a .n + (a .align - a .n % a .align) = omega (arith, m) in
+    (sym (min-eq-right l) ∙ onward-between (a .r .now) (a .align) (a .n) (pos e) (c .before .if3 .left), refl)
 
 sub-result : tie.Need-sub-result
 sub-result c =
-    let s = c .before .before in
-    omega (arith, mod-lt (s .args .n) (s .pre .0))
+    let e = c .before .before .before in
+    let a = e .before .args in
+    omega (arith, mod-lt (a .n) (pos e))
 
 add-result : tie.Need-add-result
 add-result c = search needs
 
-returns-3 : tie.Need-returns-3
-returns-3 c =
-    let s = c .before .before in
-    let l : s .args .n + (s .args .align - s .args .n % s .args .align) ≤ length (s .args .r .now) = omega (arith, mod-lt (s .args .n) (s .pre .0)) in
-    sym (min-eq-left l) ∙ onward-between (s .args .r .now) (s .args .align) (s .args .n) (s .pre .0) (c .before .if1 .left)
+returns-5 : tie.Need-returns-5
+returns-5 c =
+    let e = c .before .before .before in
+    let a = e .before .args in
+    let m = mod-lt (a .n) (pos e) in
+    let l : a .n + (a .align - a .n % a .align) ≤ length (a .r .now) = omega (arith, m) in
+    (sym (min-eq-left l) ∙ onward-between (a .r .now) (a .align) (a .n) (pos e) (c .before .if3 .left), refl)
 
 pub onward-spec : {M : Type 1} → statement M
 onward-spec =
     tie.close
-    (tie.spec rem-over returns sub-if2 sub-if2-2 returns-2 sub-result add-result returns-3)
+    (tie.spec
+    returns
+    returns-2
+    rem-over
+    returns-3
+    sub-if4
+    sub-if4-2
+    returns-4
+    sub-result
+    add-result
+    returns-5)

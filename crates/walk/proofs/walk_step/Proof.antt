@@ -1,5 +1,5 @@
 use Prim.Native.Nat.{ℕ, _+_, _-_, _≤_, _<_}
-use mathlib.Core.Path.{_≡_, sym, ap, _∙_}
+use mathlib.Core.Path.{_≡_, refl, sym, ap, _∙_}
 use mathlib.Core.Bool.{Bool, true}
 use native.Mathlib.Omega.{arith}
 use lib.ListN.{length, drop}
@@ -76,10 +76,7 @@ guard-requires : tie.Need-guard-requires Inv-loop μ-loop
 guard-requires c κs = search needs
 
 onward-requires : tie.Need-onward-requires Inv-loop μ-loop
-onward-requires c κs =
-    let j = c .before .before .before .before in
-    let l = loop (j .before .before) in
-    (l .loop .inv .found (j .before .before .before .before .loop-test .taken) .0, fits j .1)
+onward-requires c κs = search needs
 
 returns : tie.Need-returns Inv-loop μ-loop
 returns c =
@@ -87,9 +84,11 @@ returns c =
     let j = g .before .before .before in
     let f = j .before .before in
     let l = loop f in
-    let a = start l .args in
-    took (a .guarded) (a .r .now) (a .align) (a .from) (l .loop .p) (l .loop .inv) (f .before .before .loop-test .taken) (j .j .given .0 .0) (header j) (g .guard .result) (g .guard .ensures)
-    (c .onward .result) (c .before .if1 .taken) (c .onward .ensures)
+    let a = start l .args in (
+      took (a .guarded) (a .r .now) (a .align) (a .from) (l .loop .p) (l .loop .inv) (f .before .before .loop-test .taken) (j .j .given .0 .0) (header j) (g .guard .result) (g .guard .ensures)
+          (c .onward .result) (c .before .if1 .taken) (c .onward .ensures .0),
+      refl,
+    )
 
 loop-less : tie.Need-loop-less Inv-loop μ-loop
 loop-less c =
@@ -122,7 +121,7 @@ loop-less-2 c =
     let a = start l .args in
     let t = f .before .before .loop-test .taken in
     let pos = l .loop .inv .found t .0 in
-    omega (arith, t, c .next-after .ensures, next-above (a .r .now) (a .align) pos (l .loop .p) (l .loop .p + a .align) (length (a .r .now)) t (omega (arith, pos)))
+    omega (arith, t, c .next-after .ensures .0, next-above (a .r .now) (a .align) pos (l .loop .p) (l .loop .p + a .align) (length (a .r .now)) t (omega (arith, pos)))
 
 loop-again-2 : tie.Need-loop-again-2 Inv-loop μ-loop
 loop-again-2 c =
@@ -130,13 +129,13 @@ loop-again-2 c =
     let l = loop f in
     let a = start l .args in
     let t = f .before .before .loop-test .taken in
-    hunted-on (l .loop .inv) (ill-formed (a .guarded) (a .r .now) (a .align) (l .loop .inv .found t .0) (l .loop .p) t (c .next-after .result) (judged-none _ (said f ∙ c .before .enum-told .given .1)) (c .next-after .ensures))
+    hunted-on (l .loop .inv) (ill-formed (a .guarded) (a .r .now) (a .align) (l .loop .inv .found t .0) (l .loop .p) t (c .next-after .result) (judged-none _ (said f ∙ c .before .enum-told .given .1)) (c .next-after .ensures .0))
 
 returns-2 : tie.Need-returns-2 Inv-loop μ-loop
 returns-2 c =
     let l = c .before in
     let a = start l .args in
-    sym (ap (told (a .r .now) (a .align)) (l .loop .inv .same ∙ step-past (pickOf (a .guarded) (a .r .now) (a .align)) (a .r .now) (a .align) (l .loop .p) (c .loop-test .left)))
+    (sym (ap (told (a .r .now) (a .align)) (l .loop .inv .same ∙ step-past (pickOf (a .guarded) (a .r .now) (a .align)) (a .r .now) (a .align) (l .loop .p) (c .loop-test .left))), refl)
 
 pub walk-step-spec : {M : Type 1} → statement M
 walk-step-spec =

@@ -1,0 +1,51 @@
+use mathlib.Core.Path.{sym, ap, _∙_}
+use Rattle.cbfs.specs.Cbfs.{partOn}
+use borrow.Author.Needs.{needs}
+use Rattle.cbfs.proofs.lookup_of.Statement.{statement}
+use Rattle.cbfs.proofs.lookup_of.Tie as tie
+
+read-requires : tie.Need-read-requires
+read-requires c κs = search needs
+
+enum-known-m : tie.Need-enum-known-m
+enum-known-m c = search needs
+
+lookup-in-requires : tie.Need-lookup-in-requires
+lookup-in-requires c κs = search needs
+
+enum-told : tie.Need-enum-told
+enum-told c = search needs
+
+sub-result : tie.Need-sub-result
+sub-result c = search needs
+
+part-result-start : tie.Need-part-result-start
+part-result-start c = search needs
+
+part-result-end : tie.Need-part-result-end
+part-result-end c = search needs
+
+returns : tie.Need-returns
+returns c =
+    let m = c .before .before in
+    let e = sym (m .before .before .read .ensures .0) ∙ m .m .given .1 in
+    (c .lookup-in .ensures .0 ∙ rw e)
+
+returns-2 : tie.Need-returns-2
+returns-2 c =
+    let e = sym (c .before .before .before .read .ensures .0) ∙ c .before .enum-told .given .1 in
+    (rw e)
+
+pub lookup-of-spec : {M : Type 1} → statement M
+lookup-of-spec =
+    tie.close
+    (tie.spec
+    read-requires
+    enum-known-m
+    lookup-in-requires
+    enum-told
+    sub-result
+    part-result-start
+    part-result-end
+    returns
+    returns-2)

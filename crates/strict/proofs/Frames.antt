@@ -1,0 +1,96 @@
+-- What stays of the guarded listing where bytes are put anew, as long as these fill whole cells between places and no span in part.
+use Prim.Native.Nat.{ℕ, suc, _+_, _*_, _-_, _≤_, _<_}
+use native.Mathlib.Nat.{lt-of-mul-lt-mul-right, mul-le-mul-right}
+use native.Mathlib.Omega.{arith}
+use mathlib.Core.Path.{_≡_, refl, sym, _∙_}
+use mathlib.Core.List.{List, List·Memᴰ}
+use mathlib.Core.Bool.{Bool, true, false, not}
+use mathlib.Core.Option.{some}
+use lib.ListN.{length, getD, drop}
+use borrow.Author.Tests.{not-true}
+use Rattle.component.specs.Component.{Component, span}
+use Rattle.component.proofs.Judging.{judge-local, window}
+use Rattle.walk.specs.Lists.{keep}
+use Rattle.walk.specs.Walk.{Entry, placesBelow, places, carries, buried, plain, guarded, guardedListing, allFrom}
+use Rattle.walk.proofs.Places.{Place, mem-places}
+use Rattle.walk.proofs.Picks.{carries-local, buried-false, buried-of, guarded-plain, guarded-of, guarded-none, guarded-fits, guarded-listing}
+use Rattle.strict.proofs.Picked.{mem-all, all-mem, picked-keep}
+
+-- Every magic at a place is a component's that the guarded walk may take.
+abbrev pub Sound : List ℕ → ℕ → Type 0
+Sound r a = (p : ℕ) → Place a p → carries r p ≡ true → (c : Component) × (guarded r a p ≡ some c)
+
+-- What the guarded listing has: what may be taken at a place, and all of it.
+
+pub mem-guarded : (r : List ℕ) (a : ℕ) → 0 < a → (t : Entry) → List·Memᴰ t (guardedListing r a)
+    → Place a (t .place) × (t .place < length r) × (guarded r a (t .place) ≡ some (t .component))
+mem-guarded r a pos t m = mem-all (guarded r a) r a pos t (rw (guarded-listing r a pos) at m)
+
+pub guarded-mem : (r : List ℕ) (a : ℕ) → 0 < a → (p : ℕ) (c : Component) → Place a p → guarded r a p ≡ some c
+    → List·Memᴰ (record { place = p; component = c }) (guardedListing r a)
+guarded-mem r a pos p c pl e = rw (guarded-listing r a pos) (all-mem (guarded r a) r a pos p c pl (omega (arith, guarded-fits r a pos p c e)) e)
+
+-- Two places are a apart.
+pub place-far : (a : ℕ) (p q : ℕ) → Place a p → Place a q → p < q → p + a ≤ q
+place-far a p q (i, pe) (j, qe) lt =
+    let ij : i < j = lt-of-mul-lt-mul-right a {m = i} {n = j} (omega arith) in
+    omega (arith, mul-le-mul-right {m = suc i} {n = j} a ij)
+
+-- The bytes of a region that are put anew: whole cells, each from a place up to the next, and of what may be taken at a place that stays, the whole span stays.
+pub record Frame (r : List ℕ) (a : ℕ) (anew : ℕ → Bool) (r′ : List ℕ) : Type 0 where
+  pub alike : length r′ ≡ length r
+  pub rest : (i : ℕ) → anew i ≡ false → getD r′ i 0 ≡ getD r i 0
+  pub cells : (p i : ℕ) → Place a p → anew p ≡ false → p ≤ i → i < p + a → i < length r → anew i ≡ false
+  pub spans : (p : ℕ) (c : Component) → Place a p → guarded r a p ≡ some c → anew p ≡ false → (i : ℕ) → p ≤ i → i < p + span c → anew i ≡ false
+
+-- The eight bytes at a place lie in its cell: for that the alignment is 8 or more.
+module _ (r r′ : List ℕ) (a : ℕ) (big : 8 ≤ a) (anew : ℕ → Bool) (fr : Frame r a anew r′) where
+  abbrev pos : 0 < a
+  pos = omega arith
+
+  pub same-magic : (p : ℕ) → Place a p → anew p ≡ false → carries r′ p ≡ carries r p
+  same-magic p pl q = carries-local r r′ p (fr .alike) (λ i le lt l. fr .rest i (fr .cells p i pl q le (omega arith) l))
+
+  pub same-component : (p : ℕ) (c : Component) → Place a p → anew p ≡ false → guarded r a p ≡ some c → guarded r′ a p ≡ some c
+  unfolding plain
+  same-component p c pl q e = guarded-of r′ a pos p c
+      (judge-local (drop p r) (drop p r′) c (g .0) (window (span c) p r′ r (rw (fr .alike)) (λ j j< k. fr .rest (p + j) (stays (p + j) (omega arith) (omega arith)))))
+      (buried-of r′ a pos p (span c) (λ x px lt k. same-magic x px (stays x (omega arith) k) ∙ buried-false r a pos p (span c) pl (g .1) x px lt k) pl)
+    where
+      g : (plain r p ≡ some c) × (buried r a p (span c) ≡ false)
+      g = guarded-plain r a pos p c e
+
+      stays : (i : ℕ) → p ≤ i → i < p + span c → anew i ≡ false
+      stays = fr .spans p c pl e q
+
+  -- What stays is listed, alike in place, type, name and content.
+  pub same-listed : (t : Entry) → List·Memᴰ t (guardedListing r a) → anew (t .place) ≡ false → List·Memᴰ t (guardedListing r′ a)
+  same-listed t m q = let f = mem-guarded r a pos t m in
+      guarded-mem r′ a pos (t .place) (t .component) (f .0) (same-component (t .place) (t .component) (f .0) q (f .2))
+
+  -- Where every magic was a component's, the guarded walk may take at a place that stays what it might.
+  module _ (sound : Sound r a) where
+    pub same-pick : (p : ℕ) → Place a p → anew p ≡ false → guarded r′ a p ≡ guarded r a p
+    same-pick p pl q = go (carries r p) refl
+      where
+        go : (b : Bool) → carries r p ≡ b → guarded r′ a p ≡ guarded r a p
+        go true e = let s = sound p pl e in same-component p (s .0) pl q (s .1) ∙ sym (s .1)
+        go false e = guarded-none r′ a pos p (same-magic p pl q ∙ e) ∙ sym (guarded-none r a pos p e)
+
+    -- What is listed at places that stay is the same, in its order.
+    pub same-rest : keep (λ t. not (anew (t .place))) (guardedListing r′ a) ≡ keep (λ t. not (anew (t .place))) (guardedListing r a)
+    unfolding allFrom
+    same-rest = rw (guarded-listing r′ a pos, guarded-listing r a pos, fr .alike)
+        (picked-keep (λ p. not (anew p)) (guarded r a) (guarded r′ a) (places a (placesBelow a (length r - 0)) 0)
+        (λ p m e. same-pick p (at p (mem-places a (placesBelow a (length r - 0)) 0 p m)) (not-true (anew p) e)))
+      where
+        at : (p : ℕ) → (i : ℕ) × (i < placesBelow a (length r - 0)) × (p ≡ 0 + i * a) → Place a p
+        at p (i, lt, e) = (i, omega arith)
+
+    -- If each new magic is a component's too, every magic is.
+    pub still-sound : ((p : ℕ) → Place a p → anew p ≡ true → carries r′ p ≡ true → (c : Component) × (guarded r′ a p ≡ some c)) → Sound r′ a
+    still-sound new p pl c = go (anew p) refl
+      where
+        go : (b : Bool) → anew p ≡ b → (d : Component) × (guarded r′ a p ≡ some d)
+        go true q = new p pl q c
+        go false q = let s = sound p pl (sym (same-magic p pl q) ∙ c) in (s .0, same-component p (s .0) pl q (s .1))

@@ -1,0 +1,15 @@
+pub mod Keeping
+pub mod Picked
+pub mod Frames
+pub mod Bearing
+pub mod Slots
+pub mod Accepting
+pub mod Reasons
+pub mod Verdicts
+pub mod Image
+pub mod Strays
+pub mod Checking
+pub mod Directories
+pub mod Passes
+pub mod Answers
+pub mod Example

@@ -1,0 +1,101 @@
+-- What stands in a list of all that may be taken.
+use Prim.Native.Nat.{ℕ, suc, _+_, _*_, _-_, _≤_, _<_}
+use native.Mathlib.Nat.{lt-of-mul-lt-mul-right, mul-le-mul-right}
+use native.Mathlib.Omega.{arith}
+use mathlib.Core.Path.{_≡_, refl, sym, ap, _∙_}
+use mathlib.Core.List.{List, [], _∷_, List·Memᴰ, List·Memᴰ·head, List·Memᴰ·tail, List·Memᴰ·not-nil, List·Memᴰ·cases-cons, Memᴰ·cast}
+use mathlib.Core.Logic.{_⊎_, inl, inr}
+use mathlib.Core.Bool.{Bool, true, false}
+use mathlib.Core.Option.{Option, some, none}
+use lib.ListN.{length}
+use Rattle.component.specs.Component.{Component}
+use Rattle.walk.specs.Lists.{keep}
+use Rattle.walk.specs.Walk.{Entry, Pick, placesBelow, places, prepend, picked, allFrom}
+use Rattle.walk.proofs.Places.{Place, below-ge, below-lt, mem-places, places-mem}
+
+pub mem-picked : (pick : Pick) (ps : List ℕ) (t : Entry) → List·Memᴰ t (picked pick ps) → List·Memᴰ (t .place) ps × (pick (t .place) ≡ some (t .component))
+unfolding picked prepend
+mem-picked pick [] t m = absurd (List·Memᴰ·not-nil m)
+mem-picked pick (p ∷ ps) t m = go (pick p) refl m (λ m′. mem-picked pick ps t m′)
+  where
+    Goal : Type 0
+    Goal = List·Memᴰ (t .place) (p ∷ ps) × (pick (t .place) ≡ some (t .component))
+
+    later : List·Memᴰ (t .place) ps × (pick (t .place) ≡ some (t .component)) → Goal
+    later (m′, e) = (List·Memᴰ·tail m′, e)
+
+    go : (o : Option Component) → pick p ≡ o → List·Memᴰ t (prepend p o (picked pick ps))
+        → (List·Memᴰ t (picked pick ps) → List·Memᴰ (t .place) ps × (pick (t .place) ≡ some (t .component))) → Goal
+    go none q m′ ih = later (ih m′)
+    go (some c) q m′ ih = by (List·Memᴰ·cases-cons m′)
+      where
+        by : (t ≡ record { place = p; component = c }) ⊎ List·Memᴰ t (picked pick ps) → Goal
+        by (inl e) = (List·Memᴰ·head (ap (λ (u : Entry). u .place) e), rw e q)
+        by (inr n) = later (ih n)
+
+pub picked-mem : (pick : Pick) (ps : List ℕ) (p : ℕ) (c : Component) → List·Memᴰ p ps → pick p ≡ some c → List·Memᴰ (record { place = p; component = c }) (picked pick ps)
+unfolding picked prepend
+picked-mem pick [] p c m e = absurd (List·Memᴰ·not-nil m)
+picked-mem pick (x ∷ xs) p c m e = go (List·Memᴰ·cases-cons m) (λ m′. picked-mem pick xs p c m′ e)
+  where
+    T : Entry
+    T = record { place = p; component = c }
+
+    later : (o : Option Component) → List·Memᴰ T (picked pick xs) → List·Memᴰ T (prepend x o (picked pick xs))
+    later none n = n
+    later (some g) n = List·Memᴰ·tail n
+
+    go : (p ≡ x) ⊎ List·Memᴰ p xs → (List·Memᴰ p xs → List·Memᴰ T (picked pick xs)) → List·Memᴰ T (prepend x (pick x) (picked pick xs))
+    go (inl q) ih = rw (← q, e) (List·Memᴰ·head refl)
+    go (inr n) ih = later (pick x) (ih n)
+
+-- All that may be taken in the region: at a place, below the end.
+module _ (pick : Pick) (r : List ℕ) (a : ℕ) (pos : 0 < a) where
+  pub mem-all : (t : Entry) → List·Memᴰ t (allFrom pick r a 0) → Place a (t .place) × (t .place < length r) × (pick (t .place) ≡ some (t .component))
+  unfolding allFrom
+  mem-all t m =
+      let f = mem-picked pick (places a (placesBelow a (length r - 0)) 0) t m in
+      go (mem-places a (placesBelow a (length r - 0)) 0 (t .place) (f .0)) (f .1)
+    where
+      go : (i : ℕ) × (i < placesBelow a (length r - 0)) × (t .place ≡ 0 + i * a) → pick (t .place) ≡ some (t .component)
+          → Place a (t .place) × (t .place < length r) × (pick (t .place) ≡ some (t .component))
+      go (i, i<, e) q =
+          let k : suc i * a ≤ placesBelow a (length r - 0) * a = mul-le-mul-right {m = suc i} {n = placesBelow a (length r - 0)} a i< in
+          ((i, omega arith), omega (arith, below-lt a pos (length r - 0)), q)
+
+  pub place-listed : (p : ℕ) → Place a p → p < length r → List·Memᴰ p (places a (placesBelow a (length r - 0)) 0)
+  place-listed p (i, e) h =
+      let k : i < placesBelow a (length r - 0) = lt-of-mul-lt-mul-right a {m = i} {n = placesBelow a (length r - 0)} (omega (arith, below-ge a pos (length r - 0))) in
+      Memᴰ·cast {b = 0 + i * a} (omega arith) (places-mem a (placesBelow a (length r - 0)) 0 i k)
+
+  pub all-mem : (p : ℕ) (c : Component) → Place a p → p < length r → pick p ≡ some c → List·Memᴰ (record { place = p; component = c }) (allFrom pick r a 0)
+  unfolding allFrom
+  all-mem p c pl lt e = picked-mem pick (places a (placesBelow a (length r - 0)) 0) p c (place-listed p pl lt) e
+
+keep-out : (test : ℕ → Bool) (p : ℕ) (o : Option Component) (l : List Entry) → test p ≡ false → keep (λ t. test (t .place)) (prepend p o l) ≡ keep (λ t. test (t .place)) l
+unfolding keep prepend
+keep-out test p none l e = refl
+keep-out test p (some c) l e = rw e
+
+keep-in : (test : ℕ → Bool) (p : ℕ) (o : Option Component) (l : List Entry) → test p ≡ true → keep (λ t. test (t .place)) (prepend p o l) ≡ prepend p o (keep (λ t. test (t .place)) l)
+unfolding keep prepend
+keep-in test p none l e = refl
+keep-in test p (some c) l e = rw e
+
+-- Picks that agree where a test of the place holds give the same, as far as the test holds.
+pub picked-keep : (test : ℕ → Bool) (pick pick′ : Pick) (ps : List ℕ) → ((p : ℕ) → List·Memᴰ p ps → test p ≡ true → pick′ p ≡ pick p)
+    → keep (λ t. test (t .place)) (picked pick′ ps) ≡ keep (λ t. test (t .place)) (picked pick ps)
+unfolding picked
+picked-keep test pick pick′ [] h = refl
+picked-keep test pick pick′ (p ∷ ps) h = go (test p) refl (picked-keep test pick pick′ ps (λ x m e. h x (List·Memᴰ·tail m) e))
+  where
+    go : (b : Bool) → test p ≡ b → keep (λ t. test (t .place)) (picked pick′ ps) ≡ keep (λ t. test (t .place)) (picked pick ps)
+        → keep (λ t. test (t .place)) (prepend p (pick′ p) (picked pick′ ps)) ≡ keep (λ t. test (t .place)) (prepend p (pick p) (picked pick ps))
+    go true e ih = rw (h p (List·Memᴰ·head refl) e, keep-in test p (pick p) (picked pick′ ps) e, keep-in test p (pick p) (picked pick ps) e, ih)
+    go false e ih = keep-out test p (pick′ p) (picked pick′ ps) e ∙ ih ∙ sym (keep-out test p (pick p) (picked pick ps) e)
+
+-- Picks that agree at the places take the same there.
+pub picked-same : (pick pick′ : Pick) (ps : List ℕ) → ((p : ℕ) → List·Memᴰ p ps → pick′ p ≡ pick p) → picked pick′ ps ≡ picked pick ps
+unfolding picked
+picked-same pick pick′ [] h = refl
+picked-same pick pick′ (p ∷ ps) h = rw (h p (List·Memᴰ·head refl), picked-same pick pick′ ps (λ x m. h x (List·Memᴰ·tail m)))

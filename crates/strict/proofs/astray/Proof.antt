@@ -1,0 +1,12 @@
+use mathlib.Core.Path.{refl}
+use Rattle.strict.specs.Directory.{noPlaces}
+use borrow.Author.Needs.{needs}
+use Rattle.strict.proofs.astray.Statement.{statement}
+use Rattle.strict.proofs.astray.Tie as tie
+
+returns : tie.Need-returns
+unfolding noPlaces
+returns c = (refl, refl, refl, refl)
+
+pub astray-spec : {M : Type 1} → statement M
+astray-spec = tie.close (tie.spec returns)

@@ -1,0 +1,46 @@
+-- The directory that the strict check answers (document 01: 256 places, unused ones holding zero, and a count), and the steps towards it.
+use Prim.Native.Nat.{ℕ, _+_, _<_}
+use mathlib.Core.Path.{_≡_}
+use mathlib.Core.List.{List, [], _∷_, map}
+use mathlib.Core.Bool.{Bool, true, false, cond, not, _&&_}
+use lib.ListN.{length, drop, set, replicate}
+use lib.Dec.{eqb}
+use Rattle.number.specs.Bytes.{eqBytes}
+use Rattle.component.specs.Component.{judge, nameOf}
+use Rattle.walk.specs.Lists.{any}
+use Rattle.walk.specs.Walk.{Entry, plainListing}
+use Rattle.strict.specs.Strict.{limit, Verdict, refused, accepted, strays, verdict, padded}
+use Rattle.strict.specs.declared.Directory.{Directory}
+use Rattle.strict.specs.declared.Pass.{Pass}
+
+-- A directory with no place in use.
+unfoldable pub noPlaces : List ℕ
+noPlaces = replicate limit 0
+
+-- A refusal has its number and its place, and zeros elsewhere.
+abbrev pub refusal : ℕ → ℕ → Directory
+refusal n p = record { number = n; place = p; count = 0; places = noPlaces }
+
+-- The verdict on a region that begins at s, its places told from the image's start. Only 12 tells a place.
+abbrev pub directory : ℕ → Verdict → Directory
+directory s (refused n p) = refusal n (cond (eqb n 12) (s + p) 0)
+directory s (accepted ps) = record { number = 0; place = 0; count = length ps; places = padded limit (map (λ p. s + p) ps) }
+
+-- The places of a listing, stored in d from n on; what does not fit is left out.
+unfoldable pub fill : List ℕ → ℕ → List Entry → List ℕ
+fill d n [] = d
+fill d n (t ∷ ts) = fill (set d n (t .place)) (n + 1) ts
+
+-- What one pass over the region says: the lowest stray place; or that there is none, how many components there are, and their places.
+pub record Passed (r : List ℕ) (a : ℕ) (s : Pass) : Type 0 where
+  pub stray : s .astray ≡ true → (verdict limit r a ≡ refused 12 (s .place)) × (s .place < length r)
+  pub clean : s .astray ≡ false → (strays r a ≡ []) × (s .count ≡ length (plainListing r a)) × (s .places ≡ fill noPlaces 0 (plainListing r a))
+
+-- The component at the place p bears the name.
+unfoldable pub named : List ℕ → List ℕ → ℕ → Bool
+named r name p = eqBytes (nameOf (judge (drop p r))) name
+
+-- No two of the components at these places have the same name.
+unfoldable pub apartAt : List ℕ → List ℕ → Bool
+apartAt r [] = true
+apartAt r (p ∷ ps) = let rest = apartAt r ps in not (any (named r (nameOf (judge (drop p r)))) ps) && rest

@@ -1,0 +1,3 @@
+pub mod Strict
+pub mod Slots
+pub mod Directory

@@ -1,0 +1,63 @@
+-- Slots, and what is kept where some are spoiled (the order, demand 3), over a region's bytes r at the alignment a.
+use Prim.Native.Nat.{ℕ, _-_, _≤_, _<_}
+use mathlib.Core.Path.{_≡_}
+use mathlib.Core.List.{List, [], _∷_, List·Memᴰ}
+use mathlib.Core.Bool.{Bool, true, false, cond, not, _&&_, _||_}
+use lib.ListN.{length, getD, take, drop}
+use lib.Dec.{ltb, leb}
+use Rattle.walk.specs.Lists.{any, keep}
+use Rattle.walk.specs.Walk.{Entry, end, guardedListing}
+use Rattle.walk.specs.Lookup.{refused, gives, bears, guardedLookup}
+
+-- The first component's start, or else the region's end e.
+unfoldable pub start : ℕ → List Entry → ℕ
+start e [] = e
+start e (t ∷ ts) = t .place
+
+-- "A slot runs from one component's start to the next one's start or the region's end."
+-- The byte i lies in a slot of the set; a slot is told by its component's place. What lies before the first component is no slot.
+unfoldable pub within : (ℕ → Bool) → ℕ → List Entry → ℕ → Bool
+within set e [] i = false
+within set e (t ∷ ts) i = let rest = within set e ts i in (set (t .place) && leb (t .place) i && ltb i (start e ts)) || rest
+
+-- The byte i of the region r lies in a slot of the set.
+abbrev pub hit : (ℕ → Bool) → List ℕ → ℕ → ℕ → Bool
+hit set r a i = within set (length r) (guardedListing r a) i
+
+-- The component stands in a slot of the set: "a component is listed from the slot that its place lies in" (document 01).
+abbrev pub spoiled : (ℕ → Bool) → List ℕ → ℕ → Entry → Bool
+spoiled set r a t = hit set r a (t .place)
+
+-- "Spoil any set of its slots, whatever bytes are put in them; every other byte stays, and the other slots are untouched."
+pub record Spoilt (set : ℕ → Bool) (r : List ℕ) (a : ℕ) (r′ : List ℕ) : Type 0 where
+  pub alike : length r′ ≡ length r
+  pub rest : (i : ℕ) → hit set r a i ≡ false → getD r′ i 0 ≡ getD r i 0
+
+-- What the guarded listing and lookup of the spoiled region r′ keep of the accepted one r. An entry holds place, type, name and content.
+pub record Kept (set : ℕ → Bool) (r : List ℕ) (a : ℕ) (r′ : List ℕ) : Type 0 where
+  -- "The guarded listing of the spoiled image still gives the component of every untouched slot."
+  pub listed : (t : Entry) → List·Memᴰ t (guardedListing r a) → spoiled set r a t ≡ false → List·Memᴰ t (guardedListing r′ a)
+  -- "Leave out what it lists from spoiled slots: the rest equals the accepted image's guarded listing with the spoiled slots' components
+  -- left out, in the same order and alike in place, type, name and content."
+  pub rest : keep (λ t. not (spoiled set r a t)) (guardedListing r′ a) ≡ keep (λ t. not (spoiled set r a t)) (guardedListing r a)
+  -- "Whatever else the spoiled image lists has its whole span in spoiled slots."
+  pub inside : (t : Entry) → List·Memᴰ t (guardedListing r′ a) → spoiled set r a t ≡ true → (i : ℕ) → t .place ≤ i → i < end t → hit set r a i ≡ true
+  -- "The guarded lookup of an untouched component's name gives that component, place and content as before, exactly when nothing listed
+  -- from a spoiled slot bears the name too. Otherwise it refuses with 11. It never gives another."
+  pub lookup : (t : Entry) → List·Memᴰ t (guardedListing r a) → spoiled set r a t ≡ false
+      → guardedLookup r′ a (t .component .name) ≡ cond (any (bears (t .component .name)) (keep (spoiled set r a) (guardedListing r′ a))) (refused 11) (gives t)
+
+-- The same over an image whose region runs from lo up to hi.
+
+-- The region's bytes.
+unfoldable pub regionOf : List ℕ → ℕ → ℕ → List ℕ
+regionOf img lo hi = take (hi - lo) (drop lo img)
+
+-- The byte j of the image lies in a slot of the set.
+unfoldable pub slotted : (ℕ → Bool) → List ℕ → ℕ → ℕ → ℕ → ℕ → Bool
+slotted set img lo hi a j = leb lo j && ltb j hi && hit set (regionOf img lo hi) a (j - lo)
+
+-- Slots of the set are spoiled, and every other byte of the image stays.
+pub record SpoiltImage (set : ℕ → Bool) (img : List ℕ) (lo hi a : ℕ) (img′ : List ℕ) : Type 0 where
+  pub alike : length img′ ≡ length img
+  pub rest : (j : ℕ) → slotted set img lo hi a j ≡ false → getD img′ j 0 ≡ getD img j 0

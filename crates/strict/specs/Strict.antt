@@ -1,0 +1,74 @@
+-- The strict check over a region's bytes r at the alignment a (document 01, "Components and the two walks"; refusals 12, 13, 11).
+use Prim.Native.Nat.{ℕ, _-_, _≤_}
+use mathlib.Core.Path.{_≡_}
+use mathlib.Core.List.{List, [], _∷_, _++_, map}
+use mathlib.Core.Bool.{Bool, true, cond, not, _&&_}
+use mathlib.Core.Option.{Option, some, none}
+use lib.ListN.{length, replicate}
+use lib.Dec.{ltb, eqb}
+use Rattle.walk.specs.Lists.{any, keep}
+use Rattle.walk.specs.Walk.{Entry, placesBelow, places, allPlaces, carries, plain, listingFrom, plainListing}
+use Rattle.walk.specs.Lookup.{bears}
+
+-- How many components a region may have.
+abbrev pub limit : ℕ
+limit = 256
+
+-- A listing has a component at the place p.
+unfoldable pub takes : List Entry → ℕ → Bool
+takes l p = any (λ t. eqb (t .place) p) l
+
+-- The place p carries the magic, and the listing does not take it.
+unfoldable pub stray : List ℕ → List Entry → ℕ → Bool
+stray r l p = carries r p && not (takes l p)
+
+-- The places with the magic that the plain walk does not take, the lowest first.
+unfoldable pub strays : List ℕ → ℕ → List ℕ
+strays r a = keep (stray r (plainListing r a)) (allPlaces r a)
+
+-- No two names are equal.
+unfoldable pub toldApart : List Entry → Bool
+toldApart [] = true
+toldApart (t ∷ ts) = let rest = toldApart ts in not (any (bears (t .component .name)) ts) && rest
+
+-- The strict check accepts.
+pub record Accepted (r : List ℕ) (a : ℕ) : Type 0 where
+  -- "every place with the magic is one the plain walk takes"
+  pub all-taken : strays r a ≡ []
+  -- "there are at most 256 components"
+  pub few : length (plainListing r a) ≤ limit
+  -- "and no two names are equal"
+  pub told-apart : toldApart (plainListing r a) ≡ true
+
+-- A refusal's number and its place, or the places of the components.
+pub data Verdict : Type 0 where
+  refused : ℕ → ℕ → Verdict
+  accepted : List ℕ → Verdict
+
+abbrev pub placesOf : List Entry → List ℕ
+placesOf l = map (λ t. t .place) l
+
+-- The verdict on the stray places and the plain listing, at most that many components being allowed. The order is 12, 13, 11.
+unfoldable pub decide : ℕ → List ℕ → List Entry → Verdict
+decide most (p ∷ ps) l = refused 12 p
+decide most [] l = cond (ltb most (length l)) (refused 13 0) (cond (toldApart l) (accepted (placesOf l)) (refused 11 0))
+
+-- What the strict check answers.
+unfoldable pub verdict : ℕ → List ℕ → ℕ → Verdict
+verdict most r a = decide most (strays r a) (plainListing r a)
+
+-- The directory: w numbers, those that are not used 0.
+unfoldable pub padded : ℕ → List ℕ → List ℕ
+padded w l = l ++ replicate (w - length l) 0
+
+-- The same from the number n on: what the plain walk begun at n does not take of the places from n on.
+unfoldable pub straysFrom : List ℕ → ℕ → ℕ → List ℕ
+straysFrom r a n = keep (stray r (listingFrom (plain r) r a n)) (places a (placesBelow a (length r - n)) n)
+
+unfoldable pub lowest : List ℕ → Option ℕ
+lowest [] = none
+lowest (p ∷ ps) = some p
+
+-- The lowest of them, if there is one.
+abbrev pub firstStray : List ℕ → ℕ → ℕ → Option ℕ
+firstStray r a n = lowest (straysFrom r a n)

@@ -1,0 +1,68 @@
+use Prim.Native.Nat.{ℕ}
+use mathlib.Core.Path.{refl, sym, _∙_}
+use mathlib.Core.Bool.{true}
+use Rattle.walk.specs.Lookup.{bearersFrom}
+use Rattle.walk.proofs.Lookups.{only-missing, only-found, only-twice}
+use borrow.Author.Needs.{needs}
+use Rattle.walk.proofs.guarded_find.Statement.{statement}
+use Rattle.walk.proofs.guarded_find.Tie as tie
+
+abbrev start : tie.After-first-bearer → tie.Start
+start c = c .before .before .before
+
+first-bearer-requires : tie.Need-first-bearer-requires
+first-bearer-requires c κs = search needs
+
+enum-told : tie.Need-enum-told
+enum-told c = search needs
+
+enum-known-s : tie.Need-enum-known-s
+enum-known-s c = search needs
+
+first-bearer-requires-2 : tie.Need-first-bearer-requires-2
+first-bearer-requires-2 c κs = search needs
+
+enum-told-2 : tie.Need-enum-told-2
+enum-told-2 c = search needs
+
+enum-told-3 : tie.Need-enum-told-3
+enum-told-3 c = search needs
+
+returns : tie.Need-returns
+unfolding bearersFrom
+returns c =
+    let f = c .before .before in
+    let a = start f .args in
+    (only-missing true (a .r .now) (a .align) (a .name .now) (sym (f .first-bearer .ensures) ∙ c .enum-told .given .1), (refl, refl))
+
+returns-2 : tie.Need-returns-2
+unfolding bearersFrom
+returns-2 c =
+    let u = c .before .before in
+    let s = u .before .before in
+    let f = s .before .before in
+    let a = start f .args in
+    (only-found true (a .r .now) (a .align) (a .name .now) _ (sym (f .first-bearer .ensures) ∙ s .s .given .1) (sym (u .first-bearer2 .ensures) ∙ c .enum-told2 .given .1), (refl, refl))
+
+returns-3 : tie.Need-returns-3
+unfolding bearersFrom
+returns-3 c =
+    let u = c .before .before in
+    let s = u .before .before in
+    let f = s .before .before in
+    let a = start f .args in
+    (only-twice true (a .r .now) (a .align) (a .name .now) _ (sym (f .first-bearer .ensures) ∙ s .s .given .1) _ (sym (u .first-bearer2 .ensures) ∙ c .enum-told3 .given .1), (refl, refl))
+
+pub guarded-find-spec : {M : Type 1} → statement M
+guarded-find-spec =
+    tie.close
+    (tie.spec
+    first-bearer-requires
+    enum-told
+    enum-known-s
+    first-bearer-requires-2
+    enum-told-2
+    enum-told-3
+    returns
+    returns-2
+    returns-3)
