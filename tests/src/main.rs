@@ -12,9 +12,11 @@ mod capability;
 mod cases;
 mod compare;
 mod conditions;
+mod flashmap;
 mod guarded;
 mod image;
 mod listings;
+mod maps;
 mod master;
 mod plain;
 mod program;
@@ -38,7 +40,7 @@ use tally::Tally;
 /// The capabilities that are tested. Each is a module of its own and one line here.
 #[rustfmt::skip]
 fn capabilities() -> Vec<Capability> {
-    vec![plain::capability(), guarded::capability()]
+    vec![plain::capability(), guarded::capability(), maps::capability()]
 }
 
 /// The least number of cases of a run that does not say how many.

@@ -3,6 +3,8 @@
 mod input;
 mod output;
 
+use fmap::Area;
+use fmap::Map;
 use master::Master;
 use output::Out;
 use region::Found;
@@ -223,6 +225,97 @@ fn rest_of(content: &[u8]) -> usize {
     if content.len() == 0 { 0 } else { 1 }
 }
 
+// 0 where every field of the area is 0, else 1.
+fn area_used(a: Area) -> usize {
+    if a.offset != 0 {
+        return 1;
+    }
+    if a.size != 0 {
+        return 1;
+    }
+    if a.flags != 0 {
+        return 1;
+    }
+    if a.name != 0 {
+        return 1;
+    }
+    0
+}
+
+// 0 where every area from `from` on is zero throughout, else 1.
+fn unused_areas(areas: [Area; 256], from: usize) -> usize {
+    let mut i = from;
+    while i < 256 {
+        let a = areas[i];
+        if area_used(a) != 0 {
+            return 1;
+        }
+        i += 1;
+    }
+    0
+}
+
+// The lines of the first n areas.
+fn put_areas(out: &mut Out, used: usize, areas: [Area; 256], n: usize) -> usize
+    requires { ⌜ used ≤ 65536 ⌝ }
+    ensures { λ r. ⌜ r ≤ 65536 ⌝ }
+{
+    let mut at = used;
+    let mut i = 0;
+    while i < 256 {
+        if n <= i {
+            break;
+        }
+        let a = areas[i];
+        at = output::word(out, at, b"area");
+        at = output::number(out, at, a.offset);
+        at = output::number(out, at, a.size);
+        at = output::number(out, at, a.flags as usize);
+        at = output::number(out, at, a.name);
+        at = output::line_end(out, at);
+        i += 1;
+    }
+    at
+}
+
+// The last field of a refused map: 0 where all else in it is zero, else 1.
+fn rest_of_map(m: Map) -> usize {
+    if m.minor != 0 {
+        return 1;
+    }
+    if m.base != 0 {
+        return 1;
+    }
+    if m.count != 0 {
+        return 1;
+    }
+    let areas = m.areas;
+    unused_areas(areas, 0)
+}
+
+// Operation f: the flash map.
+fn flash_map(out: &mut Out, used: usize, image: &[u8]) -> usize
+    requires { ⌜ used ≤ 65536 ⌝ }
+    ensures { λ r. ⌜ r ≤ 65536 ⌝ }
+{
+    let m = fmap::read(image);
+    if m.number != 0 {
+        let r = Refusal {
+            number: m.number,
+            place: m.place,
+        };
+        return refused(out, used, r, rest_of_map(m));
+    }
+    let areas = m.areas;
+    let mut at = output::word(out, used, b"map");
+    at = output::number(out, at, m.minor as usize);
+    at = output::number(out, at, m.base as usize);
+    at = output::number(out, at, m.count);
+    at = output::number(out, at, unused_areas(areas, m.count));
+    at = output::line_end(out, at);
+    put_areas(out, at, areas, m.count)
+}
+
 fn bad_case(out: &mut Out, used: usize) -> Turn
     requires { ⌜ used ≤ 65536 ⌝ }
     ensures { λ r. ⌜ r .used ≤ 65536 ⌝ }
@@ -256,6 +349,7 @@ fn answer(out: &mut Out, used: usize, op: u8, image: &[u8], name: &[u8], n: usiz
         b'j' => answered(one_step(out, used, true, image, n)),
         b'k' => answered(lookup(out, used, true, image, name)),
         b'c' => answered(strict_check(out, used, image)),
+        b'f' => answered(flash_map(out, used, image)),
         _ => bad_case(out, used),
     }
 }

@@ -1,0 +1,117 @@
+-- Laws of the areas of a map, as a loop that counts them down meets them, and of their 256 records.
+use Prim.Native.Nat.{ℕ, zero, suc, _+_, _*_, _-_, _≤_, _<_}
+use native.Mathlib.Omega.{arith}
+use mathlib.Core.Path.{_≡_, refl, sym, ap, _∙_}
+use mathlib.Core.Bool.{Bool, true, false}
+use mathlib.Core.List.{List, [], _∷_, _++_, append-assoc}
+use lib.ListN.{length, set, replicate, length-append}
+use lib.Seq.{set-at}
+use Rattle.terms.specs.Refusals.{firstFailed}
+use Rattle.fmap.specs.Lists.{any, noTwo}
+use Rattle.fmap.specs.Fmap.{areaAt, areasAt, areaTests, turnTests, unused, padded}
+use Rattle.fmap.specs.declared.Area.{Area}
+use Rattle.fmap.proofs.Orders.{numbered, first-here, first-later}
+
+areas-zero : (s : List ℕ) (p : ℕ) → areasAt s 0 p ≡ []
+unfolding areasAt
+areas-zero s p = refl
+
+areas-suc : (s : List ℕ) (j p : ℕ) → areasAt s (suc j) p ≡ areaAt s p ∷ areasAt s j (p + 42)
+unfolding areasAt
+areas-suc s j p = refl
+
+area-numbered : (s : List ℕ) (l : ℕ) (a : Area) → numbered (areaTests s l a) ≡ true
+unfolding areaTests
+area-numbered s l a = refl
+
+module _ (s : List ℕ) (k p : ℕ) where
+  pub areas-next : 0 < k → areasAt s k p ≡ areaAt s p ∷ areasAt s (k - 1) (p + 42)
+  areas-next h = go (k - 1) (omega arith)
+    where
+      go : (j : ℕ) → k ≡ suc j → areasAt s k p ≡ areaAt s p ∷ areasAt s j (p + 42)
+      go j e = rw e (areas-suc s j p)
+
+  pub areas-end : k ≤ 0 → areasAt s k p ≡ []
+  areas-end h = let e : k ≡ 0 = omega arith in rw e (areas-zero s p)
+
+  -- The area a that was read at p, and what was answered of it.
+
+  module _ {a : Area} (e : a ≡ areaAt s p) {b : Bool} where
+    -- A test that holds of some area.
+
+    pub any-here : (t : Area → Bool) → 0 < k → b ≡ t a → b ≡ true → any t (areasAt s k p) ≡ true
+    unfolding any
+    any-here t h f y = rw (areas-next h, ← e, ← f, y)
+
+    pub any-not : (t : Area → Bool) → 0 < k → b ≡ t a → b ≡ false → any t (areasAt s k p) ≡ any t (areasAt s (k - 1) (p + 42))
+    unfolding any
+    any-not t h f y = rw (areas-next h, ← e, ← f, y)
+
+    -- A test that holds of no two areas.
+
+    pub two-here : (t : Area → Area → Bool) → 0 < k → b ≡ any (t a) (areasAt s (k - 1) (p + 42)) → b ≡ true → noTwo t (areasAt s k p) ≡ false
+    unfolding noTwo
+    two-here t h f y = rw (areas-next h, ← e, ← f, y)
+
+    pub two-not : (t : Area → Area → Bool) → 0 < k → b ≡ any (t a) (areasAt s (k - 1) (p + 42)) → b ≡ false → noTwo t (areasAt s k p) ≡ noTwo t (areasAt s (k - 1) (p + 42))
+    unfolding noTwo
+    two-not t h f y = rw (areas-next h, ← e, ← f, y)
+
+  pub any-end : (t : Area → Bool) → k ≤ 0 → any t (areasAt s k p) ≡ false
+  unfolding any
+  any-end t h = rw (areas-end h)
+
+  pub two-end : (t : Area → Area → Bool) → k ≤ 0 → noTwo t (areasAt s k p) ≡ true
+  unfolding noTwo
+  two-end t h = rw (areas-end h)
+
+  -- The areas in turn.
+
+  module _ {a : Area} (e : a ≡ areaAt s p) {n : ℕ} (l : ℕ) where
+    pub turn-here : 0 < k → n ≡ firstFailed (areaTests s l a) → (n ≡ 0 → ⊥) → firstFailed (turnTests s l (areasAt s k p)) ≡ n
+    unfolding turnTests
+    turn-here h f z = rw (areas-next h, ← e) (first-here (areaTests s l a) _ (λ y. z (f ∙ y)) ∙ sym f)
+
+    pub turn-not : 0 < k → n ≡ firstFailed (areaTests s l a) → n ≡ 0 → firstFailed (turnTests s l (areasAt s k p)) ≡ firstFailed (turnTests s l (areasAt s (k - 1) (p + 42)))
+    unfolding turnTests
+    turn-not h f z = rw (areas-next h, ← e) (first-later (areaTests s l a) _ (area-numbered s l a) (sym f ∙ z))
+
+  pub turn-end : (l : ℕ) → k ≤ 0 → firstFailed (turnTests s l (areasAt s k p)) ≡ 0
+  unfolding turnTests
+  turn-end l h = rw (areas-end h)
+
+-- How many there are, and one more at the end.
+
+pub areas-length : (s : List ℕ) (k p : ℕ) → length (areasAt s k p) ≡ k
+unfolding areasAt
+areas-length s zero p = refl
+areas-length s (suc k) p = ap suc (areas-length s k (p + 42))
+
+areas-last : (s : List ℕ) (k p : ℕ) → areasAt s (suc k) p ≡ areasAt s k p ++ (areaAt s (p + 42 * k) ∷ [])
+unfolding areasAt
+areas-last s zero p = let e : p ≡ p + 42 * 0 = omega arith in ap (λ (q : ℕ). areaAt s q ∷ []) e
+areas-last s (suc k) p =
+    let e : p + 42 + 42 * k ≡ p + 42 * suc k = omega arith in
+    ap (λ (l : List Area). areaAt s p ∷ l) (areas-last s k (p + 42) ∙ ap (λ (q : ℕ). areasAt s k (p + 42) ++ (areaAt s q ∷ [])) e)
+
+-- A record stored after those that are used.
+
+padded-set : (l : List Area) (a : Area) → length l < 256 → set (padded l) (length l) a ≡ padded (l ++ (a ∷ []))
+unfolding padded
+padded-set l a h = go (255 - length l) (omega arith) (simp length-append (omega arith))
+  where
+    go : (m : ℕ) → 256 - length l ≡ suc m → 256 - length (l ++ (a ∷ [])) ≡ m
+        → set (l ++ replicate (256 - length l) unused) (length l) a ≡ (l ++ (a ∷ [])) ++ replicate (256 - length (l ++ (a ∷ []))) unused
+    go m e f = rw (e, f) (set-at l unused (replicate m unused) a (length l) refl ∙ sym (append-assoc l (a ∷ []) (replicate m unused)))
+
+pub padded-next : (s : List ℕ) (from i p : ℕ) {l : List Area} {a : Area} → i < 256 → p ≡ from + 42 * i → l ≡ padded (areasAt s i from) → a ≡ areaAt s p
+    → set l i a ≡ padded (areasAt s (i + 1) from)
+padded-next s from i p {l} {a} h q e f =
+    let n : length (areasAt s i from) ≡ i = areas-length s i from in
+    let o : i + 1 ≡ suc i = omega arith in
+    rw (e, f, q, o, areas-last s i from) (rw n at (padded-set (areasAt s i from) (areaAt s (from + 42 * i)) (omega arith)))
+
+-- All records are unused at first.
+pub padded-none : (s : List ℕ) (from : ℕ) {u : Area} → u ≡ unused → replicate 256 u ≡ padded (areasAt s 0 from)
+unfolding padded areasAt
+padded-none s from e = rw e

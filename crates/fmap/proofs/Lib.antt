@@ -1,0 +1,9 @@
+pub mod Signing
+pub mod Naming
+pub mod Orders
+pub mod Counting
+pub mod Reading
+pub mod Listed
+pub mod Accepting
+pub mod Theorems
+pub mod Worked

@@ -1,0 +1,131 @@
+-- Laws of names: as a loop over the indices meets them, and as parts of the bytes.
+use Prim.Native.Nat.{ℕ, zero, suc, _+_, _≤_, _<_, min}
+use native.Mathlib.Nat.{add-zero}
+use native.Mathlib.Numerals.{add-one}
+use native.Mathlib.Omega.{arith}
+use native.Mathlib.Decide.{decLe}
+use mathlib.Core.Path.{_≡_, refl, sym, ap, _∙_}
+use mathlib.Core.Bool.{Bool, true, false, cond}
+use mathlib.Core.List.{List, [], _∷_}
+use lib.ListN.{length, take, drop, getD, drop-of-length-le, length-drop, List·getD-eq-default}
+use lib.Seq.{drop-cons}
+use lib.Dec.{leb}
+use borrow.Author.Tests.{le-leb, lt-leb, leb-true, eq-eqb, ne-eqb}
+use Rattle.number.specs.Bytes.{partOf}
+use Rattle.number.proofs.Passing.{fails, passes}
+use Rattle.number.proofs.Splice.{part-in}
+use Rattle.fmap.specs.Names.{isPrintable, printed, nameTests, nameFits, nameOf, nameAt}
+
+-- printed, over the indices
+
+pub printed-here : (f : List ℕ) (i : ℕ) → i < length f → isPrintable (getD f i 0) ≡ true → i + length (printed (drop i f)) ≡ i + 1 + length (printed (drop (i + 1) f))
+unfolding printed
+printed-here f i h y = rw (drop-cons f i 0 h, y, add-one) (omega arith)
+
+pub printed-not : (f : List ℕ) (i : ℕ) → i < length f → isPrintable (getD f i 0) ≡ false → i + length (printed (drop i f)) ≡ i
+unfolding printed
+printed-not f i h n = rw (drop-cons f i 0 h, n) (add-zero i)
+
+pub printed-end : (f : List ℕ) (i : ℕ) → length f ≤ i → i + length (printed (drop i f)) ≡ i
+unfolding printed
+printed-end f i h = rw (drop-of-length-le f h) (add-zero i)
+
+printed-take : (f : List ℕ) → take (length (printed f)) f ≡ printed f
+unfolding printed
+printed-take [] = refl
+printed-take (b ∷ f) = go (isPrintable b) (printed-take f)
+  where
+    go : (t : Bool) → take (length (printed f)) f ≡ printed f → take (length (cond t (b ∷ printed f) [])) (b ∷ f) ≡ cond t (b ∷ printed f) []
+    go true e = ap (λ (l : List ℕ). b ∷ l) e
+    go false e = refl
+
+printed-le : (f : List ℕ) → length (printed f) ≤ length f
+unfolding printed
+printed-le [] = omega arith
+printed-le (b ∷ f) = go (isPrintable b) (printed-le f)
+  where
+    go : (t : Bool) → length (printed f) ≤ length f → length (cond t (b ∷ printed f) []) ≤ suc (length f)
+    go true h = omega arith
+    go false h = omega arith
+
+-- The length of the name, by the tests. n is what was counted, up to 32.
+
+bad : (f : List ℕ) (k : ℕ) → getD (nameTests f (printed f)) k true ≡ false → 0 ≡ length (nameOf f)
+unfolding nameOf nameFits
+bad f k h = rw (fails k (nameTests f (printed f)) h)
+
+pub name-long : (f : List ℕ) (n : ℕ) → n ≡ min 32 (length (printed f)) → 31 < n → 0 ≡ length (nameOf f)
+unfolding nameTests
+name-long f n e h = bad f 1 (lt-leb (length (printed f)) 31 (omega arith))
+
+-- Within the bytes, what stands past their end does not matter.
+within : (f : List ℕ) (n : ℕ) → n < length f → getD f n 1 ≡ getD f n 0
+within [] n h = absurd (omega arith)
+within (b ∷ f) zero h = refl
+within (b ∷ f) (suc n) h = within f n (omega arith)
+
+unended : (f : List ℕ) (n : ℕ) → n ≡ min 32 (length (printed f)) → n ≤ 31 → (getD f n 1 ≡ 0 → ⊥) → 0 ≡ length (nameOf f)
+unfolding nameTests
+unended f n e l h = let q : length (printed f) ≡ n = omega arith in bad f 2 (rw q (ne-eqb _ _ h))
+
+pub name-cut : (f : List ℕ) (n : ℕ) → n ≡ min 32 (length (printed f)) → n ≤ 31 → length f ≤ n → 0 ≡ length (nameOf f)
+name-cut f n e l h = unended f n e l (λ z. absurd (omega (arith, z, List·getD-eq-default f 1 h)))
+
+pub name-open : (f : List ℕ) (n : ℕ) → n ≡ min 32 (length (printed f)) → n ≤ 31 → n < length f → (getD f n 0 ≡ 0 → ⊥) → 0 ≡ length (nameOf f)
+name-open f n e l h z = unended f n e l (λ y. z (sym (within f n h) ∙ y))
+
+-- A fit name has a byte.
+some-letter : (f : List ℕ) → nameFits f ≡ true → 1 ≤ length (printed f)
+unfolding nameFits nameTests
+some-letter f h = leb-true 1 (length (printed f)) (passes 0 (nameTests f (printed f)) h)
+
+part-none : (s : List ℕ) (p : ℕ) → partOf s p 0 ≡ []
+unfolding partOf
+part-none s p = go (leb (p + 0) (length s))
+  where
+    go : (b : Bool) → cond b (take 0 (drop p s)) [] ≡ []
+    go true = refl
+    go false = refl
+
+pub name-good : (f : List ℕ) (n : ℕ) → n ≡ min 32 (length (printed f)) → n ≤ 31 → n < length f → getD f n 0 ≡ 0 → n ≡ length (nameOf f)
+unfolding nameOf nameFits nameTests
+name-good f n e l m z = by (decLe 1 n)
+  where
+    q : length (printed f) ≡ n
+    q = omega arith
+
+    by : Dec (1 ≤ n) → n ≡ length (nameOf f)
+    by (yes h) = rw (q, le-leb 1 n h, le-leb n 31 l, eq-eqb _ _ (within f n m ∙ z)) (sym q)
+    by (no g) = omega (arith, bad f 0 (lt-leb 1 (length (printed f)) (omega (arith, q))))
+
+-- A name is fit exactly if it is not empty.
+
+pub name-unfit : (f : List ℕ) → length (nameOf f) ≡ 0 → nameFits f ≡ false
+unfolding nameOf
+name-unfit f e = go (nameFits f) refl e
+  where
+    go : (b : Bool) → nameFits f ≡ b → length (cond b (printed f) []) ≡ 0 → b ≡ false
+    go false q z = refl
+    go true q z = absurd (omega (arith, z, some-letter f q))
+
+pub name-fit : (f : List ℕ) → (length (nameOf f) ≡ 0 → ⊥) → nameFits f ≡ true
+unfolding nameOf
+name-fit f h = go (nameFits f) refl h
+  where
+    go : (b : Bool) → nameFits f ≡ b → (length (cond b (printed f) []) ≡ 0 → ⊥) → b ≡ true
+    go false q z = absurd (z refl)
+    go true q z = refl
+
+-- The name is a part of the bytes.
+pub name-part : (s : List ℕ) (p n : ℕ) → n ≡ length (nameAt s p) → partOf s p n ≡ nameAt s p
+unfolding nameOf
+name-part s p n e = go (nameFits (drop p s)) refl e
+  where
+    f : List ℕ
+    f = drop p s
+
+    go : (b : Bool) → nameFits f ≡ b → n ≡ length (cond b (printed f) []) → partOf s p n ≡ cond b (printed f) []
+    go true q k =
+        let l : p + n ≤ length s = omega (arith, some-letter f q, printed-le f, length-drop p s) in
+        sym (part-in s p n l) ∙ rw k (printed-take f)
+    go false q k = rw k (part-none s p)

@@ -1,0 +1,23 @@
+use borrow.Author.Tests.{le-leb, lt-leb}
+use Rattle.fmap.specs.Fmap.{extentFits}
+use borrow.Author.Needs.{needs}
+use Rattle.fmap.proofs.extent_fits.Statement.{statement}
+use Rattle.fmap.proofs.extent_fits.Tie as tie
+
+returns : tie.Need-returns
+unfolding extentFits
+returns c = rw (lt-leb _ _ (c .if1 .taken))
+
+add-if2 : tie.Need-add-if2
+add-if2 c = search needs
+
+returns-2 : tie.Need-returns-2
+unfolding extentFits
+returns-2 c = rw (le-leb _ _ (c .before .before .if1 .left), lt-leb _ _ (c .if2 .taken))
+
+returns-3 : tie.Need-returns-3
+unfolding extentFits
+returns-3 c = rw (le-leb _ _ (c .before .before .if1 .left), le-leb _ _ (c .if2 .left))
+
+pub extent-fits-spec : {M : Type 1} → statement M
+extent-fits-spec = tie.close (tie.spec returns add-if2 returns-2 returns-3)

@@ -1,0 +1,75 @@
+use Prim.Native.Nat.{ℕ, _+_, _*_, _-_, _≤_}
+use mathlib.Core.Path.{_≡_, sym, refl, ap, _∙_}
+use native.Mathlib.Omega.{arith}
+use mathlib.Core.List.{List}
+use lib.ListN.{length}
+use Rattle.fmap.specs.Lists.{any, noTwo}
+use Rattle.fmap.specs.Fmap.{areasAt, bears as bearsOf, sameName}
+use Rattle.fmap.proofs.Counting.{two-here, two-not, two-end}
+use borrow.Author.Needs.{needs}
+use Rattle.fmap.proofs.names_differ.Statement.{statement}
+use Rattle.fmap.proofs.names_differ.Tie as tie
+
+abbrev Inv-loop : tie.InvT-loop
+Inv-loop s from count p₀ k₀ p k = (p + 42 * k ≤ length s) × (noTwo (sameName s) (areasAt s count from) ≡ noTwo (sameName s) (areasAt s k p))
+
+abbrev μ-loop : tie.MeasureT-loop
+μ-loop s from count p₀ k₀ p k = k
+
+loop-holds : tie.Need-loop-holds Inv-loop μ-loop
+loop-holds c = (search needs, refl)
+
+area-at-requires : tie.Need-area-at-requires Inv-loop μ-loop
+area-at-requires c κs = search needs
+
+add-p : tie.Need-add-p Inv-loop μ-loop
+add-p c = search needs
+
+sub-k : tie.Need-sub-k Inv-loop μ-loop
+sub-k c = search needs
+
+name-at-requires : tie.Need-name-at-requires Inv-loop μ-loop
+name-at-requires c κs = search needs
+
+name-borne-requires : tie.Need-name-borne-requires Inv-loop μ-loop
+name-borne-requires c κs = search needs
+
+returns : tie.Need-returns Inv-loop μ-loop
+returns c =
+    let r = c .before .before .before in
+    let l = r .before .before in
+    let a = l .before .before .args in
+    sym (l .loop .inv .1 ∙ two-here (a .s .now) (l .loop .k) (l .loop .p) (r .area-at .ensures .0) (sameName (a .s .now)) (omega arith) (c .before .name-borne .ensures ∙ ap (λ (n : List ℕ). any (bearsOf (a .s .now) n) (areasAt (a .s .now) (l .loop .k - 1) (l .loop .p + 42))) (c .before .before .name-at .ensures)) (c .if1 .taken))
+
+loop-less : tie.Need-loop-less Inv-loop μ-loop
+loop-less c = search needs
+
+loop-again : tie.Need-loop-again Inv-loop μ-loop
+loop-again c =
+    let r = c .before .before .before in
+    let l = r .before .before in
+    let a = l .before .before .args in
+    (omega arith, l .loop .inv .1 ∙ two-not (a .s .now) (l .loop .k) (l .loop .p) (r .area-at .ensures .0) (sameName (a .s .now)) (omega arith) (c .before .name-borne .ensures ∙ ap (λ (n : List ℕ). any (bearsOf (a .s .now) n) (areasAt (a .s .now) (l .loop .k - 1) (l .loop .p + 42))) (c .before .before .name-at .ensures)) (c .if1 .left))
+
+returns-2 : tie.Need-returns-2 Inv-loop μ-loop
+returns-2 c =
+    let l = c .before in
+    let a = l .before .before .args in
+    sym (l .loop .inv .1 ∙ two-end (a .s .now) (l .loop .k) (l .loop .p) (sameName (a .s .now)) (omega arith))
+
+pub names-differ-spec : {M : Type 1} → statement M
+names-differ-spec =
+    tie.close
+    (tie.spec
+    Inv-loop
+    μ-loop
+    loop-holds
+    area-at-requires
+    add-p
+    sub-k
+    name-at-requires
+    name-borne-requires
+    returns
+    loop-less
+    loop-again
+    returns-2)

@@ -1,0 +1,177 @@
+-- The flash map of an image (document 01, "Flash map", and refusals 1 and 27 to 37): little-endian, packed.
+-- The map that stands at a place `at` of the bytes s is judged against a length l.
+use Prim.Native.Nat.{ℕ, zero, suc, _+_, _*_, _-_}
+use mathlib.Core.List.{List, [], _∷_, _++_}
+use mathlib.Core.Bool.{Bool, cond, not, _||_}
+use lib.ListN.{length, drop, getD, replicate}
+use lib.Dec.{leb, eqb}
+use Rattle.number.specs.Number.{le}
+use Rattle.number.specs.Bytes.{eqBytes}
+use Rattle.number.specs.Tests.{every}
+use Rattle.terms.specs.Refusals.{Test, test, firstFailed}
+use Rattle.fmap.specs.Lists.{any, noTwo}
+use Rattle.fmap.specs.Signatures.{signatures, firstOr}
+use Rattle.fmap.specs.Names.{nameFits, nameAt}
+use Rattle.fmap.specs.declared.Area.{Area}
+use Rattle.fmap.specs.declared.Map.{Map}
+
+-- The header, 56 bytes: signature, major, minor, base, size, name, nareas. The header's own name is not read.
+
+abbrev pub major : List ℕ → ℕ → ℕ
+major s at = getD s (at + 8) 0
+
+abbrev pub minor : List ℕ → ℕ → ℕ
+minor s at = getD s (at + 9) 0
+
+abbrev pub base : List ℕ → ℕ → ℕ
+base s at = le 8 s (at + 10)
+
+abbrev pub size : List ℕ → ℕ → ℕ
+size s at = le 4 s (at + 18)
+
+abbrev pub nareas : List ℕ → ℕ → ℕ
+nareas s at = le 2 s (at + 54)
+
+-- Where the map ends: after its last area.
+abbrev pub mapEnd : List ℕ → ℕ → ℕ
+mapEnd s at = at + 56 + 42 * nareas s at
+
+-- An area, 42 bytes: offset, size, name, flags. Of the name its place is told.
+unfoldable pub areaAt : List ℕ → ℕ → Area
+areaAt s p = record { offset = le 4 s p; size = le 4 s (p + 4); flags = le 2 s (p + 40); name = p + 8 }
+
+-- k areas, the first at p.
+unfoldable pub areasAt : List ℕ → ℕ → ℕ → List Area
+areasAt s zero p = []
+areasAt s (suc k) p = areaAt s p ∷ areasAt s k (p + 42)
+
+-- The areas of the map at `at`, in map order.
+abbrev pub areasOf : List ℕ → ℕ → List Area
+areasOf s at = areasAt s (nareas s at) (at + 56)
+
+-- Where an area ends.
+abbrev pub endOf : Area → ℕ
+endOf a = a .offset + a .size
+
+-- 1: L is 64 to 16,777,216.
+unfoldable pub lengthFits : List ℕ → Bool
+lengthFits i = every (leb 64 (length i) ∷ leb (length i) 16777216 ∷ [])
+
+-- How many areas a map may have.
+abbrev pub most : ℕ
+most = 256
+
+-- 32: there are 1 to 256 areas.
+unfoldable pub countFits : ℕ → Bool
+countFits n = every (leb 1 n ∷ leb n most ∷ [])
+
+-- 34: two areas have the same name.
+
+unfoldable pub bears : List ℕ → List ℕ → Area → Bool
+bears s name a = eqBytes (nameAt s (a .name)) name
+
+abbrev pub sameName : List ℕ → Area → Area → Bool
+sameName s a = bears s (nameAt s (a .name))
+
+-- 35: an area is not empty, and ends at l or before.
+unfoldable pub extentFits : ℕ → Area → Bool
+extentFits l a = every (leb 1 (a .size) ∷ leb (endOf a) l ∷ [])
+
+-- 36: two areas cross. They are not disjoint, and neither holds the other.
+
+unfoldable pub disjoint : Area → Area → Bool
+disjoint a b = leb (endOf a) (b .offset) || leb (endOf b) (a .offset)
+
+unfoldable pub holds : Area → Area → Bool
+holds a b = every (leb (a .offset) (b .offset) ∷ leb (endOf b) (endOf a) ∷ [])
+
+unfoldable pub cross : Area → Area → Bool
+cross a b = every (not (disjoint a b) ∷ not (holds a b) ∷ not (holds b a) ∷ [])
+
+-- 37: an area is named FMAP, and holds the bytes from `at` up to e.
+
+unfoldable pub ownName : List ℕ
+ownName = 0x46 ∷ 0x4D ∷ 0x41 ∷ 0x50 ∷ []
+
+unfoldable pub ownTests : List ℕ → ℕ → ℕ → Area → List Bool
+ownTests s at e a = bears s ownName a ∷ leb (a .offset) at ∷ leb e (endOf a) ∷ []
+
+unfoldable pub holdsMap : List ℕ → ℕ → ℕ → Area → Bool
+holdsMap s at e a = every (ownTests s at e a)
+
+-- The tests in the order of their refusals: "1, 27 to 32, areas in turn by 33 then 35, then 34, 36, 37".
+
+-- Of the signatures.
+unfoldable pub signatureTests : List ℕ → List Test
+signatureTests ps = test 27 (leb 1 (length ps)) ∷ test 28 (leb (length ps) 1) ∷ []
+
+-- Of the header.
+unfoldable pub headerTests : List ℕ → ℕ → ℕ → List Test
+headerTests s at l =
+    test 29 (leb (mapEnd s at) (length s))
+    ∷ test 30 (eqb (major s at) 1)
+    ∷ test 31 (eqb (size s at) l)
+    ∷ test 32 (countFits (nareas s at))
+    ∷ []
+
+-- Of each area in turn.
+
+unfoldable pub areaTests : List ℕ → ℕ → Area → List Test
+areaTests s l a = test 33 (nameFits (drop (a .name) s)) ∷ test 35 (extentFits l a) ∷ []
+
+unfoldable pub turnTests : List ℕ → ℕ → List Area → List Test
+turnTests s l [] = []
+turnTests s l (a ∷ xs) = areaTests s l a ++ turnTests s l xs
+
+-- Of all areas together.
+unfoldable pub wholeTests : List ℕ → ℕ → List Area → List Test
+wholeTests s at xs =
+    test 34 (noTwo (sameName s) xs)
+    ∷ test 36 (noTwo cross xs)
+    ∷ test 37 (any (holdsMap s at (mapEnd s at)) xs)
+    ∷ []
+
+-- Of the map at `at`.
+unfoldable pub testsAt : List ℕ → ℕ → ℕ → List Test
+testsAt s at l = headerTests s at l ++ (turnTests s l (areasOf s at) ++ wholeTests s at (areasOf s at))
+
+-- Of an image i, whose signatures are ps.
+unfoldable pub tests : List ℕ → List ℕ → List Test
+tests i ps = test 1 (lengthFits i) ∷ (signatureTests ps ++ testsAt i (firstOr 0 ps) (length i))
+
+-- What is answered: records of areas, 256 of them, unused ones zero.
+
+abbrev pub unused : Area
+unused = record { offset = 0; size = 0; flags = 0; name = 0 }
+
+unfoldable pub padded : List Area → List Area
+padded xs = xs ++ replicate (most - length xs) unused
+
+unfoldable pub mapOf : List ℕ → ℕ → Map
+mapOf s at = record {
+  number = 0;
+  place = 0;
+  minor = minor s at;
+  base = base s at;
+  count = nareas s at;
+  areas = padded (areasOf s at);
+}
+
+unfoldable pub refused : ℕ → Map
+refused n = record { number = n; place = 0; minor = 0; base = 0; count = 0; areas = padded [] }
+
+-- The map at `at`, or the refusal by the number n.
+unfoldable pub answer : ℕ → List ℕ → ℕ → Map
+answer n s at = cond (eqb n 0) (mapOf s at) (refused n)
+
+-- The map at a place, judged against the length l.
+unfoldable pub mapAt : List ℕ → ℕ → ℕ → Map
+mapAt s at l = answer (firstFailed (testsAt s at l)) s at
+
+-- The flash map of an image, of which ps are the signatures.
+unfoldable pub fmapBy : List ℕ → List ℕ → Map
+fmapBy i ps = answer (firstFailed (tests i ps)) i (firstOr 0 ps)
+
+-- The flash map of an image, or the refusal.
+unfoldable pub fmap : List ℕ → Map
+fmap i = fmapBy i (signatures i)

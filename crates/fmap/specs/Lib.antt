@@ -1,0 +1,4 @@
+pub mod Lists
+pub mod Signatures
+pub mod Names
+pub mod Fmap
