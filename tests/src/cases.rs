@@ -4,6 +4,7 @@
 use std::sync::Arc;
 
 use crate::image::{background, put, Frame, Raw};
+use crate::protocol::Case;
 use crate::rng::Rng;
 use crate::walk::LARCHIVE;
 
@@ -19,6 +20,16 @@ impl Scene {
     fn new(image: Vec<u8>, numbers: &[u64], names: &[&[u8]], note: &'static str) -> Scene {
         let names = names.iter().map(|name| name.to_vec()).collect();
         Scene { image: Arc::new(image), numbers: numbers.to_vec(), names, note }
+    }
+
+    /// A step from each number and a lookup of each name, by these operations.
+    pub fn ask_by_number_and_name(&self, step: u8, lookup: u8, cases: &mut Vec<Case>) {
+        for number in &self.numbers {
+            cases.push(Case::new(step, &self.image, self.note).numbered(*number));
+        }
+        for name in &self.names {
+            cases.push(Case::new(lookup, &self.image, self.note).named(name));
+        }
     }
 }
 

@@ -214,12 +214,7 @@ fn ask(scene: &Scene, cases: &mut Vec<Case>) {
         return;
     }
     cases.push(Case::new(b'g', &scene.image, scene.note));
-    for number in &scene.numbers {
-        cases.push(Case::new(b'j', &scene.image, scene.note).numbered(*number));
-    }
-    for name in &scene.names {
-        cases.push(Case::new(b'k', &scene.image, scene.note).named(name));
-    }
+    scene.ask_by_number_and_name(b'j', b'k', cases);
 }
 
 fn generated(seed: u64, count: usize) -> Vec<Batch> {

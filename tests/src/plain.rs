@@ -145,12 +145,7 @@ fn ask(scene: &Scene, cases: &mut Vec<Case>) {
         cases.push(Case::new(b'm', &scene.image, scene.note));
         cases.push(Case::new(b'p', &scene.image, scene.note));
     }
-    for number in &scene.numbers {
-        cases.push(Case::new(b'i', &scene.image, scene.note).numbered(*number));
-    }
-    for name in &scene.names {
-        cases.push(Case::new(b'l', &scene.image, scene.note).named(name));
-    }
+    scene.ask_by_number_and_name(b'i', b'l', cases);
 }
 
 fn generated(seed: u64, count: usize) -> Vec<Batch> {

@@ -11,7 +11,7 @@ use lib.Seq.{drop-cons, take-all}
 use lib.Dec.{eqb}
 use borrow.Author.Tests.{eq-eqb, ne-eqb, le-leb}
 use Rattle.number.specs.Tests.{every, all}
-use Rattle.number.proofs.Passing.{fails}
+use Rattle.number.proofs.Passing.{fails, every-last}
 use Rattle.component.specs.Names.{isPrintable, nameTests, nameFits, beforeZero, fieldTests, fieldFits, nameLength}
 
 -- beforeZero
@@ -54,11 +54,7 @@ name-bad n k h = rw (fails k (nameTests n) h)
 
 pub name-rest : (n : List ℕ) → 1 ≤ length n → length n ≤ 255 → all isPrintable n ≡ nameFits n
 unfolding nameFits nameTests
-name-rest n l m = rw (le-leb 1 (length n) l, le-leb (length n) 255 m) (sym (last (all isPrintable n)))
-  where
-    last : (b : Bool) → every (b ∷ []) ≡ b
-    last true = refl
-    last false = refl
+name-rest n l m = rw (le-leb 1 (length n) l, le-leb (length n) 255 m) (sym (every-last (all isPrintable n)))
 
 -- The length of the name in a field, by the tests.
 

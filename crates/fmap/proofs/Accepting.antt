@@ -17,10 +17,11 @@ use Rattle.terms.specs.Refusals.{Test, test, firstFailed}
 use Rattle.fmap.specs.Lists.{any, noTwo}
 use Rattle.fmap.specs.Signatures.{signatures, firstOr}
 use Rattle.fmap.specs.Names.{isPrintable, printed, nameTests, nameFits, nameOf, nameAt}
-use Rattle.fmap.specs.Fmap.{nareas, mapEnd, areasOf, endOf, lengthFits, bears, sameName, extentFits, disjoint, holds, cross, ownName, ownTests, holdsMap, signatureTests, headerTests, areaTests, turnTests, wholeTests, testsAt, tests, unused, padded, mapOf, refused, answer, fmapBy, fmap}
+use Rattle.fmap.specs.Fmap.{nareas, mapEnd, areasOf, endOf, bears, sameName, extentFits, disjoint, holds, cross, ownName, ownTests, holdsMap, signatureTests, headerTests, areaTests, turnTests, wholeTests, testsAt, tests, unused, padded, mapOf, refused, answer, fmapBy, fmap}
+use Rattle.terms.specs.Refusals.{lengthFits}
 use Rattle.fmap.specs.declared.Area.{Area}
 use Rattle.fmap.specs.declared.Map.{Map}
-use Rattle.fmap.proofs.Orders.{all-passed, first-both}
+use Rattle.terms.proofs.Orders.{all-passed, first-both}
 use Rattle.fmap.proofs.Counting.{areas-length}
 use Rattle.fmap.proofs.Reading.{not-refused}
 

@@ -10,7 +10,7 @@ use Rattle.terms.specs.Refusals.{firstFailed}
 use Rattle.fmap.specs.Lists.{any, noTwo}
 use Rattle.fmap.specs.Fmap.{areaAt, areasAt, areaTests, turnTests, unused, padded}
 use Rattle.fmap.specs.declared.Area.{Area}
-use Rattle.fmap.proofs.Orders.{numbered, first-here, first-later}
+use Rattle.terms.proofs.Orders.{numbered, first-here, first-later}
 
 areas-zero : (s : List ℕ) (p : ℕ) → areasAt s 0 p ≡ []
 unfolding areasAt

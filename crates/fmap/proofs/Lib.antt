@@ -1,6 +1,5 @@
 pub mod Signing
 pub mod Naming
-pub mod Orders
 pub mod Counting
 pub mod Reading
 pub mod Listed

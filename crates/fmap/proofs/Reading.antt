@@ -11,11 +11,12 @@ use Rattle.number.proofs.Passing.{passes}
 use Rattle.terms.specs.Refusals.{Test, test, firstFailed}
 use Rattle.fmap.specs.Lists.{any, noTwo}
 use Rattle.fmap.specs.Signatures.{signatures, found, numberOf}
-use Rattle.fmap.specs.Fmap.{minor, base, nareas, mapEnd, areasAt, areasOf, sameName, cross, holdsMap, lengthFits, countFits, signatureTests, headerTests, areaTests, turnTests, wholeTests, testsAt, tests, unused, padded, mapOf, refused, answer, mapAt, fmapBy, fmap}
+use Rattle.fmap.specs.Fmap.{minor, base, nareas, mapEnd, areasAt, areasOf, sameName, cross, holdsMap, countFits, signatureTests, headerTests, areaTests, turnTests, wholeTests, testsAt, tests, unused, padded, mapOf, refused, answer, mapAt, fmapBy, fmap}
+use Rattle.terms.specs.Refusals.{lengthFits}
 use Rattle.fmap.specs.declared.Area.{Area}
 use Rattle.fmap.specs.declared.Map.{Map}
 use Rattle.fmap.specs.declared.Found.the-variants.{Nothing, At, Several}
-use Rattle.fmap.proofs.Orders.{numbered, all-passed, first-here, first-later, first-both}
+use Rattle.terms.proofs.Orders.{numbered, all-passed, first-here, first-later, first-both}
 
 -- The map, field by field.
 pub map-fields : (s : List ℕ) (at : ℕ) {c m b : ℕ} {l : List Area} → c ≡ nareas s at → m ≡ minor s at → b ≡ base s at → l ≡ padded (areasAt s c (at + 56))

@@ -8,7 +8,7 @@ use lib.Dec.{leb, eqb}
 use Rattle.number.specs.Number.{le}
 use Rattle.number.specs.Bytes.{eqBytes}
 use Rattle.number.specs.Tests.{every}
-use Rattle.terms.specs.Refusals.{Test, test, firstFailed}
+use Rattle.terms.specs.Refusals.{Test, test, firstFailed, lengthFits}
 use Rattle.fmap.specs.Lists.{any, noTwo}
 use Rattle.fmap.specs.Signatures.{signatures, firstOr}
 use Rattle.fmap.specs.Names.{nameFits, nameAt}
@@ -52,10 +52,6 @@ areasOf s at = areasAt s (nareas s at) (at + 56)
 -- Where an area ends.
 abbrev pub endOf : Area → ℕ
 endOf a = a .offset + a .size
-
--- 1: L is 64 to 16,777,216.
-unfoldable pub lengthFits : List ℕ → Bool
-lengthFits i = every (leb 64 (length i) ∷ leb (length i) 16777216 ∷ [])
 
 -- How many areas a map may have.
 abbrev pub most : ℕ

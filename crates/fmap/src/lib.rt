@@ -7,7 +7,7 @@ ghost use Rattle.terms.specs.Refusals.{firstFailed};
 ghost use Rattle.fmap.specs.Lists.{any, noTwo};
 ghost use Rattle.fmap.specs.Signatures.{signed as signedOf, signatures as signaturesOf, signaturesFrom, firstOr, found};
 ghost use Rattle.fmap.specs.Names.{printed as printedOf, nameOf, nameAt};
-ghost use Rattle.fmap.specs.Fmap.{areaAt, areasAt, areasOf, lengthFits, countFits, bears as bearsOf, sameName, extentFits, disjoint as disjointOf, holds as holdsOf, cross as crossOf, holdsMap, mapEnd, nareas, headerTests, areaTests, turnTests, wholeTests, testsAt, padded, unused as unusedOf, mapOf, refused as refusedOf, mapAt, fmap};
+ghost use Rattle.fmap.specs.Fmap.{areaAt, areasAt, areasOf, countFits, bears as bearsOf, sameName, extentFits, disjoint as disjointOf, holds as holdsOf, cross as crossOf, holdsMap, mapEnd, nareas, headerTests, areaTests, turnTests, wholeTests, testsAt, padded, unused as unusedOf, mapOf, refused as refusedOf, mapAt, fmap};
 
 // How many areas a map may have.
 const MOST: usize = 256;
@@ -145,19 +145,6 @@ fn area_at(s: &[u8], p: usize) -> Area
         flags: number::le16(s, p + 40),
         name: p + 8,
     }
-}
-
-// Test 1.
-fn length_fits(image: &[u8]) -> bool
-    ensures { λ r. ⌜ r ≡ lengthFits (now (image .entry)) ⌝ }
-{
-    if image.len() < 64 {
-        return false;
-    }
-    if 16777216 < image.len() {
-        return false;
-    }
-    true
 }
 
 // Test 29: the header and as many areas as it states lie in the bytes.
@@ -519,7 +506,7 @@ pub fn read(image: &[u8]) -> Map
     ensures { λ r. ⌜ r ≡ fmap (now (image .entry)) ⌝ }
     ensures kept { λ _. ⌜ now (image .exit) ≡ now (image .entry) ⌝ }
 {
-    if !length_fits(image) {
+    if !terms::length_fits(image) {
         return refused(1);
     }
     let f = signatures(image);

@@ -15,28 +15,12 @@ use Rattle.number.specs.Number.{be, le}
 use Rattle.number.specs.Tests.{every}
 use Rattle.number.proofs.Digits.{be-same, le-same}
 use Rattle.number.proofs.Passing.{passes}
-use Rattle.terms.specs.Refusals.{Test, test, firstFailed}
+use Rattle.terms.specs.Refusals.{test, lengthFits}
+use Rattle.terms.proofs.Orders.{all-passed}
 use Rattle.terms.specs.declared.Region.{Region}
-use Rattle.master.specs.Master.{address, back, field, romsize, bootblocksize, align, offset, headerAt, lengthFits, addressFits, bootblockFits, alignFits, offsetFits, tests, refusal, regionOf, master}
+use Rattle.master.specs.Master.{address, back, field, romsize, bootblocksize, align, offset, headerAt, addressFits, bootblockFits, alignFits, offsetFits, tests, refusal, regionOf, master}
 use Rattle.master.specs.declared.Master.the-variants.{Read, Refused}
 use Rattle.master.proofs.Power.{one-bit}
-
--- All tests are passed where none fails.
-
-abbrev numbered : List Test → Bool
-numbered [] = true
-numbered (t ∷ ts) = cond (eqb (t .number) 0) false (numbered ts)
-
-all-passed : (ts : List Test) → numbered ts ≡ true → firstFailed ts ≡ 0 → (k : ℕ) → (getD ts k (test 1 true)) .passed ≡ true
-all-passed [] n e k = refl
-all-passed (t ∷ ts) n e k = go (eqb (t .number) 0) refl (t .passed) refl n e k (all-passed ts)
-  where
-    go : (a : Bool) → eqb (t .number) 0 ≡ a → (b : Bool) → t .passed ≡ b → cond a false (numbered ts) ≡ true → cond b (firstFailed ts) (t .number) ≡ 0 → (k : ℕ)
-        → (numbered ts ≡ true → firstFailed ts ≡ 0 → (k : ℕ) → (getD ts k (test 1 true)) .passed ≡ true) → (getD (t ∷ ts) k (test 1 true)) .passed ≡ true
-    go true p b q n′ e′ k ih = absurd (false≢true n′)
-    go false p false q n′ e′ k ih = absurd (eqb-false _ _ p e′)
-    go false p true q n′ e′ zero ih = q
-    go false p true q n′ e′ (suc k) ih = ih n′ e′ k
 
 read-some : (i : List ℕ) (g : Region) → master i ≡ Read g → (refusal i ≡ 0) × (regionOf i ≡ g)
 unfolding master

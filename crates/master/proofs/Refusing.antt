@@ -7,7 +7,6 @@ use mathlib.Core.Bool.{Bool, true, false, cond}
 use mathlib.Core.List.{List, [], _∷_}
 use lib.Dec.{leb, eqb}
 use borrow.Author.Tests.{le-leb, eq-eqb, ne-eqb}
-use Rattle.terms.specs.Refusals.{Test, test, firstFailed}
 use Rattle.terms.specs.Terms.{refusedBy}
 use Rattle.terms.specs.declared.Region.{Region}
 use Rattle.terms.specs.declared.Refusal.{Refusal}
@@ -23,14 +22,6 @@ zero-align a o e p q = rw (p, q, mod-zero 0, le-leb 0 e (omega arith))
 pub zero-align-not : (a o e : ℕ) → a ≡ 0 → (o ≡ 0 → ⊥) → false ≡ offsetFits a o e
 unfolding offsetFits
 zero-align-not a o e p h = rw (p, mod-zero o, ne-eqb o 0 h)
-
--- One test after the other.
-
-pub refuses : (n : ℕ) (b : Bool) (ts : List Test) → b ≡ false → firstFailed (test n b ∷ ts) ≡ n
-refuses n b ts e = rw e
-
-pub goes-on : (n : ℕ) (b : Bool) (ts : List Test) → b ≡ true → firstFailed (test n b ∷ ts) ≡ firstFailed ts
-goes-on n b ts e = rw e
 
 -- What is answered, by the number n of the first test that fails.
 

@@ -7,7 +7,7 @@ use lib.Dec.{leb, eqb}
 use lib.Count.{ones}
 use Rattle.number.specs.Number.{be, le}
 use Rattle.number.specs.Tests.{every}
-use Rattle.terms.specs.Refusals.{Test, test, firstFailed}
+use Rattle.terms.specs.Refusals.{Test, test, firstFailed, lengthFits}
 use Rattle.terms.specs.Terms.{refusedBy}
 use Rattle.terms.specs.declared.Region.{Region}
 use Rattle.master.specs.declared.Master.{Master}
@@ -45,10 +45,6 @@ align i = field i 16
 
 abbrev pub offset : List ℕ → ℕ
 offset i = field i 20
-
--- 1: L is 64 to 16,777,216.
-unfoldable pub lengthFits : List ℕ → Bool
-lengthFits i = every (leb 64 (length i) ∷ leb (length i) 16777216 ∷ [])
 
 -- 2: P is 0xFFFF0000 to 0xFFFFFFDC, and the header stands at byte 0 or later.
 unfoldable pub addressFits : List ℕ → Bool

@@ -6,7 +6,7 @@ ghost use Prim.Native.Nat.{_+_, _-_, _≤_};
 ghost use lib.ListN.{length};
 ghost use lib.Dec.{eqb};
 ghost use Rattle.number.specs.Number.{be, le};
-ghost use Rattle.master.specs.Master.{address as addressOf, headerAt, field as fieldOf, lengthFits, addressFits, bootblockFits, alignFits, offsetFits, romsize, bootblocksize, refusal as refusalOf, master};
+ghost use Rattle.master.specs.Master.{address as addressOf, headerAt, field as fieldOf, addressFits, bootblockFits, alignFits, offsetFits, romsize, bootblocksize, refusal as refusalOf, master};
 
 pub enum Master {
     Read(Region),
@@ -40,19 +40,6 @@ fn field(image: &[u8], k: usize) -> u32
     ensures { λ r. ⌜ r ≡ fieldOf (now (image .entry)) k ⌝ }
 {
     number::be32(image, header_at(image) + k)
-}
-
-// Test 1.
-fn length_fits(image: &[u8]) -> bool
-    ensures { λ r. ⌜ r ≡ lengthFits (now (image .entry)) ⌝ }
-{
-    if image.len() < 64 {
-        return false;
-    }
-    if 16777216 < image.len() {
-        return false;
-    }
-    true
 }
 
 // Test 2.
@@ -140,7 +127,7 @@ fn region_end(image: &[u8]) -> usize
 fn refusal(image: &[u8]) -> u32
     ensures { λ r. ⌜ r ≡ refusalOf (now (image .entry)) ⌝ }
 {
-    if !length_fits(image) {
+    if !terms::length_fits(image) {
         return 1;
     }
     if !address_fits(image) {

@@ -26,6 +26,11 @@ passes (suc k) [] h = refl
 passes (suc k) (true ∷ ts) h = passes k ts h
 passes (suc k) (false ∷ ts) h = absurd (false≢true h)
 
+-- A single test.
+pub every-last : (b : Bool) → every (b ∷ []) ≡ b
+every-last true = refl
+every-last false = refl
+
 -- all
 
 pub all-here : (t : ℕ → Bool) (f : List ℕ) (i : ℕ) → i < length f → t (getD f i 0) ≡ true → all t (drop i f) ≡ all t (drop (i + 1) f)

@@ -8,7 +8,7 @@ use mathlib.Core.List.{List, [], _∷_}
 use lib.Dec.{leb, eqb}
 use borrow.Author.Tests.{leb-true, le-leb, lt-leb, eq-eqb, ne-eqb, eqb-true, eqb-false}
 use Rattle.number.specs.Tests.{every}
-use Rattle.number.proofs.Passing.{fails, passes}
+use Rattle.number.proofs.Passing.{fails, passes, every-last}
 use Rattle.terms.specs.declared.Region.{Region}
 use Rattle.region.specs.Region.{stepFits}
 
@@ -31,11 +31,7 @@ module _ (g : Region) (n : ℕ) where
   -- Short of the end the number is a place, or not.
   pub fit-place : g .start ≤ n → n ≤ g .end → (n ≡ g .end → ⊥) → eqb ((n - g .start) % g .align) 0 ≡ stepFits g n
   unfolding stepFits
-  fit-place l h e = rw (le-leb _ _ l, le-leb _ _ h, ne-eqb _ _ e) (sym (last (eqb ((n - g .start) % g .align) 0)))
-    where
-      last : (b : Bool) → every (b ∷ []) ≡ b
-      last true = refl
-      last false = refl
+  fit-place l h e = rw (le-leb _ _ l, le-leb _ _ h, ne-eqb _ _ e) (sym (every-last (eqb ((n - g .start) % g .align) 0)))
 
   -- At an alignment of 0 only the start is one.
   pub fit-zero : g .start ≤ n → n ≤ g .end → (n ≡ g .end → ⊥) → g .align ≡ 0 → eqb n (g .start) ≡ stepFits g n

@@ -2,6 +2,9 @@
 use Prim.Native.Nat.{ℕ}
 use mathlib.Core.List.{List, [], _∷_}
 use mathlib.Core.Bool.{Bool, cond}
+use lib.ListN.{length}
+use lib.Dec.{leb}
+use Rattle.number.specs.Tests.{every}
 
 -- A test and the number by which it refuses.
 pub record Test : Type 0 where
@@ -15,3 +18,7 @@ test n b = record { number = n; passed = b }
 abbrev pub firstFailed : List Test → ℕ
 firstFailed [] = 0
 firstFailed (t ∷ ts) = cond (t .passed) (firstFailed ts) (t .number)
+
+-- Test 1, with which every call begins: the image has 64 to 16,777,216 bytes.
+unfoldable pub lengthFits : List ℕ → Bool
+lengthFits i = every (leb 64 (length i) ∷ leb (length i) 16777216 ∷ [])

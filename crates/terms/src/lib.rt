@@ -1,6 +1,7 @@
 // What every layer above speaks of: a region of an image, and a refusal.
 ghost use mathlib.Core.Path.{_≡_};
 ghost use Rattle.terms.specs.Terms.{bytesOf, refusedBy};
+ghost use Rattle.terms.specs.Refusals.{lengthFits};
 
 // The bytes of an image from start up to end, with places at multiples of align counted from start.
 pub struct Region {
@@ -31,4 +32,18 @@ pub fn bytes(image: &[u8], region: Region) -> &[u8]
         return &image[0..0];
     }
     number::part(image, region.start, region.end - region.start)
+}
+
+// Test 1: the image has 64 to 16,777,216 bytes.
+pub fn length_fits(image: &[u8]) -> bool
+    ensures { λ r. ⌜ r ≡ lengthFits (now (image .entry)) ⌝ }
+    ensures kept { λ _. ⌜ now (image .exit) ≡ now (image .entry) ⌝ }
+{
+    if image.len() < 64 {
+        return false;
+    }
+    if 16777216 < image.len() {
+        return false;
+    }
+    true
 }

@@ -6,7 +6,7 @@ use lib.ListN.{length, drop}
 use borrow.Author.Tests.{leb-true, eq-eqb, ne-eqb, not-true, not-false}
 use Rattle.terms.specs.Refusals.{Test, firstFailed}
 use Rattle.fmap.specs.Fmap.{mapEnd, nareas, countFits, headerTests}
-use Rattle.fmap.proofs.Orders.{refuses, goes-on}
+use Rattle.terms.proofs.Orders.{refuses, goes-on}
 use borrow.Author.Needs.{needs}
 use Rattle.fmap.proofs.header_refusal.Statement.{statement}
 use Rattle.fmap.proofs.header_refusal.Tie as tie

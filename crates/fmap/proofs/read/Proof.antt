@@ -3,7 +3,7 @@ use mathlib.Core.Path.{_≡_, refl, sym, _∙_}
 use mathlib.Core.Bool.{true}
 use mathlib.Core.List.{List}
 use borrow.Author.Tests.{not-true, not-false}
-use Rattle.fmap.specs.Fmap.{lengthFits}
+use Rattle.terms.specs.Refusals.{lengthFits}
 use Rattle.fmap.proofs.Reading.{unfit-length, no-signature, many-signatures, one-signature}
 use borrow.Author.Needs.{needs}
 use Rattle.fmap.proofs.read.Statement.{statement}
@@ -21,12 +21,12 @@ abbrev image : tie.After-length-fits → List ℕ
 image c = c .before .before .args .image .now
 
 fits : (c : tie.Else1) → lengthFits (image (c .before)) ≡ true
-fits c = sym (c .before .length-fits .ensures) ∙ not-false _ (c .if1 .left)
+fits c = sym (c .before .length-fits .ensures .0) ∙ not-false _ (c .if1 .left)
 
 returns : tie.Need-returns
 returns c =
     let l = c .before .before in
-    (unfit-length (image l) (sym (l .length-fits .ensures) ∙ not-true _ (c .before .if1 .taken)) (c .refused .ensures), refl)
+    (unfit-length (image l) (sym (l .length-fits .ensures .0) ∙ not-true _ (c .before .if1 .taken)) (c .refused .ensures), refl)
 
 signatures-requires : tie.Need-signatures-requires
 signatures-requires c κs = search needs

@@ -6,7 +6,7 @@ use lib.ListN.{length, drop}
 use borrow.Author.Tests.{eq-eqb, ne-eqb, not-true, not-false}
 use Rattle.terms.specs.Refusals.{firstFailed}
 use Rattle.master.specs.Master.{romsize, bootblocksize, align, offset, alignFits, offsetFits, tests, refusal as refusalOf}
-use Rattle.master.proofs.Refusing.{refuses, goes-on}
+use Rattle.terms.proofs.Orders.{refuses, goes-on}
 use borrow.Author.Needs.{needs}
 use Rattle.master.proofs.refusal.Statement.{statement}
 use Rattle.master.proofs.refusal.Tie as tie
@@ -17,7 +17,7 @@ image0 c = c .before .before .args .image .now
 
 passed1 : (c : tie.Else1) → refusalOf (image0 (c .before)) ≡ firstFailed (drop 1 (tests (image0 (c .before))))
 unfolding refusalOf tests
-passed1 c = goes-on 1 _ (drop 1 (tests (image0 (c .before)))) (sym (c .before .length-fits .ensures) ∙ not-false _ (c .if1 .left))
+passed1 c = goes-on 1 _ (drop 1 (tests (image0 (c .before)))) (sym (c .before .length-fits .ensures .0) ∙ not-false _ (c .if1 .left))
 
 abbrev image1 : tie.After-address-fits → List ℕ
 image1 c = image0 (c .before .before)
@@ -77,7 +77,7 @@ length-fits-requires c κs = search needs
 
 returns : tie.Need-returns
 unfolding refusalOf tests
-returns c = sym (refuses 1 _ (drop 1 (tests (image0 (c .before)))) (sym (c .before .length-fits .ensures) ∙ not-true _ (c .if1 .taken)))
+returns c = sym (refuses 1 _ (drop 1 (tests (image0 (c .before)))) (sym (c .before .length-fits .ensures .0) ∙ not-true _ (c .if1 .taken)))
 
 address-fits-requires : tie.Need-address-fits-requires
 address-fits-requires c κs = search needs

@@ -1,4 +1,4 @@
--- Laws of orders of refusals that are joined from parts.
+-- Laws of orders of refusals: one test after the other, and orders that are joined from parts.
 use Prim.Native.Nat.{ℕ, zero, suc}
 use mathlib.Core.Path.{_≡_, refl}
 use mathlib.Core.Bool.{Bool, true, false, cond, false≢true}
