@@ -1,3 +1,4 @@
 pub mod Power
 pub mod Refusing
 pub mod Facts
+pub mod Worked
