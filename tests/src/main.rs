@@ -12,6 +12,8 @@ mod capability;
 mod cases;
 mod compare;
 mod conditions;
+mod edit;
+mod edits;
 mod flashmap;
 mod guarded;
 mod image;
@@ -40,7 +42,7 @@ use tally::Tally;
 /// The capabilities that are tested. Each is a module of its own and one line here.
 #[rustfmt::skip]
 fn capabilities() -> Vec<Capability> {
-    vec![plain::capability(), guarded::capability(), maps::capability()]
+    vec![plain::capability(), guarded::capability(), edits::capability(), maps::capability()]
 }
 
 /// The least number of cases of a run that does not say how many.

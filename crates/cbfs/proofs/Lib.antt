@@ -1,3 +1,6 @@
 pub mod Theorems
+pub mod Images
 pub mod Spoiling
 pub mod Accepting
+pub mod Editing
+pub mod Edits

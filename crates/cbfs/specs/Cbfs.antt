@@ -10,6 +10,8 @@ use Rattle.master.specs.declared.Master.the-variants.{Read, Refused}
 use Rattle.strict.specs.Strict.{limit, verdict}
 use Rattle.strict.specs.Directory.{refusal, directory}
 use Rattle.strict.specs.declared.Directory.{Directory}
+use Rattle.editor.specs.Image.{Result, addIn, replaceIn, removeIn}
+use Rattle.editor.specs.declared.Edited.the-variants.{Refused as EditRefused}
 use Rattle.region.specs.Region.{stepIn, findIn, contentIn, nameAt as nameIn, contentAt as contentAtIn}
 use Rattle.region.specs.declared.Step.{Step}
 use Rattle.region.specs.declared.Step.the-variants.{Refused as StepRefused}
@@ -33,6 +35,11 @@ partOn (Refused r) call = []
 abbrev pub checkOn : Master → (Region → Directory) → Directory
 checkOn (Read g) call = call g
 checkOn (Refused r) call = refusal (r .number) (r .place)
+
+-- A refused edit changes no byte.
+abbrev pub editOn : List ℕ → Master → (Region → Result) → Result
+editOn i (Read g) call = call g
+editOn i (Refused r) call = record { answer = EditRefused r; image = i }
 
 -- A step from any number: refusals 1 to 8, then 9. w tells the guarded walk.
 
@@ -76,3 +83,14 @@ contentAt i p = partOn (master i) (λ g. contentAtIn i g p)
 -- The strict check: refusals 1 to 8, then 12, 13, 11; else the directory.
 abbrev pub strictCheck : List ℕ → Directory
 strictCheck i = checkOn (master i) (λ g. directory (g .start) (verdict limit (bytesOf i g) (g .align)))
+
+-- The edits, each with its answer and the image afterwards: refusals 1 to 8, 12, 13, 11, then 14, 15, 13, 16, 17 (add), 10, 16, 17 (replace) or 10 (remove).
+
+abbrev pub added : List ℕ → List ℕ → ℕ → List ℕ → Result
+added i name kind content = editOn i (master i) (λ g. addIn i g name kind content)
+
+abbrev pub replaced : List ℕ → List ℕ → List ℕ → Result
+replaced i name content = editOn i (master i) (λ g. replaceIn i g name content)
+
+abbrev pub removed : List ℕ → List ℕ → Result
+removed i name = editOn i (master i) (λ g. removeIn i g name)

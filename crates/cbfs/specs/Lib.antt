@@ -1,2 +1,3 @@
 pub mod Cbfs
 pub mod Demand3
+pub mod Demand2

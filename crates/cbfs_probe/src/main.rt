@@ -3,6 +3,7 @@
 mod input;
 mod output;
 
+use editor::Edited;
 use fmap::Area;
 use fmap::Map;
 use master::Master;
@@ -316,6 +317,66 @@ fn flash_map(out: &mut Out, used: usize, image: &[u8]) -> usize
     put_areas(out, at, areas, m.count)
 }
 
+// What an edit answered, and the whole image afterwards.
+fn edited(out: &mut Out, used: usize, e: Edited, image: &[u8]) -> usize
+    requires { ⌜ used ≤ 65536 ⌝ }
+    ensures { λ r. ⌜ r ≤ 65536 ⌝ }
+{
+    let mut at = reply(out, used, e);
+    at = output::word(out, at, b"image");
+    at = output::bytes(out, at, image);
+    output::line_end(out, at)
+}
+
+fn reply(out: &mut Out, used: usize, e: Edited) -> usize
+    requires { ⌜ used ≤ 65536 ⌝ }
+    ensures { λ r. ⌜ r ≤ 65536 ⌝ }
+{
+    match e {
+        Edited::Done(place) => {
+            let mut at = output::word(out, used, b"done");
+            at = output::number(out, at, place);
+            output::line_end(out, at)
+        }
+        Edited::Refused(r) => refused(out, used, r, 0),
+    }
+}
+
+// Operations a, r and d: add, replace, remove.
+fn edit_case(
+    out: &mut Out,
+    used: usize,
+    op: u8,
+    image: &mut [u8],
+    name: &[u8],
+    content: &[u8],
+    n: usize,
+) -> usize
+    requires { ⌜ used ≤ 65536 ⌝ }
+    ensures { λ r. ⌜ r ≤ 65536 ⌝ }
+{
+    if op == b'a' {
+        let e = cbfs::add(image, name, (n % 4294967296) as u32, content);
+        return edited(out, used, e, image);
+    }
+    if op == b'r' {
+        let e = cbfs::replace(image, name, content);
+        return edited(out, used, e, image);
+    }
+    let e = cbfs::remove(image, name);
+    edited(out, used, e, image)
+}
+
+fn is_edit(op: u8) -> bool {
+    if op == b'a' {
+        return true;
+    }
+    if op == b'r' {
+        return true;
+    }
+    op == b'd'
+}
+
 fn bad_case(out: &mut Out, used: usize) -> Turn
     requires { ⌜ used ≤ 65536 ⌝ }
     ensures { λ r. ⌜ r .used ≤ 65536 ⌝ }
@@ -378,7 +439,20 @@ fn one_case(
     }
     let i = c.image;
     let k = c.name;
-    answer(out, used, op.op, &image[0..i], &name[0..k], c.number)
+    let j = c.content;
+    let letter = op.op;
+    if is_edit(letter) {
+        return answered(edit_case(
+            out,
+            used,
+            letter,
+            &mut image[0..i],
+            &name[0..k],
+            &content[0..j],
+            c.number,
+        ));
+    }
+    answer(out, used, letter, &image[0..i], &name[0..k], c.number)
 }
 
 // Case after case. Nothing says that the input ends, so the turns count down from a number that no run uses up.

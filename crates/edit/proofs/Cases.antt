@@ -1,0 +1,114 @@
+-- Document 01's bench cases of edits, computed: bench image A's region is accepted and listed once, and each case goes from there.
+use Prim.Native.Nat.{ℕ, _+_}
+use mathlib.Core.Path.{_≡_, refl, ap, _∙_}
+use mathlib.Core.List.{List, [], _∷_, _++_}
+use lib.ListN.{length, replicate}
+use lib.Dec.{lit≤}
+use Rattle.number.specs.Number.{be, beBytes}
+use Rattle.number.specs.Bytes.{eqBytes}
+use Rattle.number.specs.Tests.{all}
+use Rattle.component.specs.Names.{beforeZero, nameTests, nameFits, fieldTests, fieldFits}
+use Rattle.component.specs.Component.{magic, startsWithMagic, componentOf, headerTests, wellFormed, fields, judge}
+use Rattle.walk.specs.Lists.{any, keep}
+use Rattle.walk.specs.Walk.{Entry, placesBelow, places, carries, buried, plain, orElse, first, onward, step, follow, steps, listingFrom, plainListing}
+use Rattle.walk.specs.Lookup.{bears}
+use Rattle.strict.specs.Strict.{takes, stray, strays, toldApart, Accepted}
+use Rattle.strict.specs.Slots.{start}
+use Rattle.edit.specs.Edit.{fieldSize, offsetFor, headerBytes, fieldBytes, spanBytes, buries, runs, lowest, slotOf, adding, renewing, clearing, Reply, refusal, done, Outcome, carriedOut, add, replace, remove}
+use Rattle.edit.proofs.Theorems.{add-on, replace-on, remove-on}
+
+-- Names of 15, 16 and 255 bytes give offsets 40, 56 and 280.
+offsets : offsetFor (replicate 15 0x78) ∷ offsetFor (replicate 16 0x78) ∷ offsetFor (replicate 255 0x78) ∷ [] ≡ 40 ∷ 56 ∷ 280 ∷ []
+unfolding fieldSize
+offsets = refl
+
+-- cal/12 (50) and cal/13 (51); log
+unfoldable pub cal : ℕ → List ℕ
+cal d = 99 ∷ 97 ∷ 108 ∷ 47 ∷ 49 ∷ d ∷ []
+
+unfoldable pub log : List ℕ
+log = 108 ∷ 111 ∷ 103 ∷ []
+
+-- Bench image A's region.
+unfoldable pub regionA : List ℕ
+regionA = spanBytes (cal 50) 0xFFFFFFFF (replicate 100 0) ++ (replicate 52 0xFF ++ (spanBytes (cal 51) 0xFFFFFFFF (replicate 24 0) ++ replicate 2816 0xFF))
+
+-- LARCHIVE from byte n of the content on.
+unfoldable pub hidingAt : ℕ → List ℕ
+hidingAt n = replicate n 0 ++ magic
+
+unfoldable here : ℕ → ℕ → ℕ → Entry
+here p d n = record { place = p; component = record { offset = 40; len = n; kind = 0xFFFFFFFF; name = cal d; content = replicate n 0 } }
+
+unfoldable listA : List Entry
+listA = here 0 50 100 ∷ here 192 51 24 ∷ []
+
+listed-64 : plainListing regionA 64 ≡ listA
+unfolding any keep be beBytes eqBytes magic startsWithMagic beforeZero all nameTests nameFits fieldTests fieldFits componentOf headerTests wellFormed fields judge placesBelow places carries plain orElse first onward step follow steps listingFrom bears takes stray strays toldApart fieldSize headerBytes fieldBytes spanBytes cal regionA here listA
+listed-64 = refl
+
+accepted-64 : Accepted regionA 64
+unfolding any keep be beBytes eqBytes magic startsWithMagic beforeZero all nameTests nameFits fieldTests fieldFits componentOf headerTests wellFormed fields judge placesBelow places carries plain orElse first onward step follow steps listingFrom bears takes stray strays toldApart fieldSize headerBytes fieldBytes spanBytes cal regionA here listA
+accepted-64 = record { all-taken = refl; few = lit≤ tt; told-apart = refl }
+
+listed-16 : plainListing regionA 16 ≡ listA
+unfolding any keep be beBytes eqBytes magic startsWithMagic beforeZero all nameTests nameFits fieldTests fieldFits componentOf headerTests wellFormed fields judge placesBelow places carries plain orElse first onward step follow steps listingFrom bears takes stray strays toldApart fieldSize headerBytes fieldBytes spanBytes cal regionA here listA
+listed-16 = refl
+
+accepted-16 : Accepted regionA 16
+unfolding any keep be beBytes eqBytes magic startsWithMagic beforeZero all nameTests nameFits fieldTests fieldFits componentOf headerTests wellFormed fields judge placesBelow places carries plain orElse first onward step follow steps listingFrom bears takes stray strays toldApart fieldSize headerBytes fieldBytes spanBytes cal regionA here listA
+accepted-16 = record { all-taken = refl; few = lit≤ tt; told-apart = refl }
+
+-- An edit of bench image A's region, from its listing.
+
+adds : (name : List ℕ) (kind : ℕ) (put : List ℕ) → add 256 regionA 64 name kind put ≡ carriedOut regionA (adding 256 regionA 64 name (spanBytes name kind put) listA)
+adds name kind put = add-on regionA 64 accepted-64 name kind put ∙ ap (λ (l : List Entry). carriedOut regionA (adding 256 regionA 64 name (spanBytes name kind put) l)) listed-64
+
+replaces : (name put : List ℕ) → replace 256 regionA 64 name put ≡ carriedOut regionA (renewing 64 name put (slotOf (length regionA) name listA))
+replaces name put = replace-on regionA 64 accepted-64 name put ∙ ap (λ (l : List Entry). carriedOut regionA (renewing 64 name put (slotOf (length regionA) name l))) listed-64
+
+removes : (name : List ℕ) → remove 256 regionA 64 name ≡ carriedOut regionA (clearing (slotOf (length regionA) name listA))
+removes name = remove-on regionA 64 accepted-64 name ∙ ap (λ (l : List Entry). carriedOut regionA (clearing (slotOf (length regionA) name l))) listed-64
+
+-- At align 16 the name xxxxxxxxLARCHIVE has the magic at byte 32.
+names : (name : List ℕ) → add 256 regionA 16 name 0x50 [] ≡ carriedOut regionA (adding 256 regionA 16 name (spanBytes name 0x50 []) listA)
+names name = add-on regionA 16 accepted-16 name 0x50 [] ∙ ap (λ (l : List Entry). carriedOut regionA (adding 256 regionA 16 name (spanBytes name 0x50 []) l)) listed-16
+
+-- One answer, and the others.
+
+told : {o u : Outcome} → o ≡ u → o .reply ≡ u .reply
+told e = ap (λ (x : Outcome). x .reply) e
+
+and : {x y : Reply} {xs ys : List Reply} → x ≡ y → xs ≡ ys → x ∷ xs ≡ y ∷ ys
+and p q = rw (p, q)
+
+-- The bench cases, as one list of what is answered.
+pub bench :
+    replace 256 regionA 64 (cal 50) (replicate 152 0) .reply
+    ∷ replace 256 regionA 64 (cal 50) (replicate 153 0) .reply
+    ∷ add 256 regionA 64 log 0x50 (replicate 2776 0) .reply
+    ∷ add 256 regionA 64 log 0x50 (replicate 2777 0) .reply
+    ∷ add 256 regionA 64 log 0x50 (hidingAt 24) .reply
+    ∷ add 256 regionA 64 log 0x50 (hidingAt 25) .reply
+    ∷ remove 256 regionA 64 (cal 51) .reply
+    ∷ remove 256 regionA 64 log .reply
+    ∷ replace 256 regionA 64 log [] .reply
+    ∷ add 256 regionA 64 (cal 50) 0x50 [] .reply
+    ∷ add 256 regionA 64 [] 0x50 [] .reply
+    ∷ add 256 regionA 16 (replicate 8 0x78 ++ magic) 0x50 [] .reply
+    ∷ []
+    ≡ done 0 ∷ refusal 17 0 ∷ done 256 ∷ refusal 17 0 ∷ refusal 16 0 ∷ done 256 ∷ done 192 ∷ refusal 10 0 ∷ refusal 10 0 ∷ refusal 15 0 ∷ refusal 14 0 ∷ refusal 16 0 ∷ []
+unfolding any beBytes eqBytes magic startsWithMagic all nameTests nameFits placesBelow places carries buried onward bears start fieldSize headerBytes fieldBytes spanBytes buries runs lowest slotOf adding renewing clearing carriedOut cal log hidingAt regionA here listA
+bench =
+    and (told (replaces (cal 50) (replicate 152 0))) (
+    and (told (replaces (cal 50) (replicate 153 0))) (
+    and (told (adds log 0x50 (replicate 2776 0))) (
+    and (told (adds log 0x50 (replicate 2777 0))) (
+    and (told (adds log 0x50 (hidingAt 24))) (
+    and (told (adds log 0x50 (hidingAt 25))) (
+    and (told (removes (cal 51))) (
+    and (told (removes log)) (
+    and (told (replaces log [])) (
+    and (told (adds (cal 50) 0x50 [])) (
+    and (told (adds [] 0x50 [])) (
+    and (told (names (replicate 8 0x78 ++ magic))) refl)))))))))))

@@ -1,0 +1,10 @@
+pub mod Worked
+pub mod Lists
+pub mod Written
+pub mod Filling
+pub mod Runs
+pub mod Decisions
+pub mod Outcomes
+pub mod Theorems
+pub mod Exactly
+pub mod Cases

@@ -1,0 +1,198 @@
+-- What the edits of a region answer and leave (the order, demand 2; document 01, "Edits" and refusals 10 to 17). The eight bytes at a place lie
+-- in one slot only if places are eight apart or more: hence 8 ≤ a.
+use Prim.Native.Nat.{ℕ, zero, suc, _+_, _-_, _^_, _≤_, _<_}
+use native.Mathlib.Nat.{pow-suc}
+use native.Mathlib.Omega.{arith}
+use mathlib.Core.Path.{_≡_, refl, sym, ap, subst, _∙_}
+use mathlib.Core.List.{List, [], _∷_, List·Memᴰ, List·Memᴰ·head, List·Memᴰ·tail}
+use mathlib.Core.Logic.{_↔_}
+use mathlib.Core.Bool.{Bool, true, false, cond, _||_, true≢false}
+use mathlib.Core.Option.{some, none, Option·some-ne-none, Option·none-ne-some}
+use lib.ListN.{length, getD, drop}
+use lib.Seq.{getD-drop}
+use Rattle.number.specs.Number.{be}
+use Rattle.component.specs.Names.{nameFits}
+use Rattle.component.specs.Component.{Component, componentOf}
+use Rattle.component.proofs.Judging.{formed, judge-name}
+use Rattle.walk.specs.Lists.{any}
+use Rattle.walk.specs.Walk.{Entry, carries, buried, places, placesBelow, plainListing}
+use Rattle.walk.specs.Lookup.{bears}
+use Rattle.walk.proofs.Places.{Place, mem-places}
+use Rattle.walk.proofs.Picks.{carries-fits, buried-false}
+use Rattle.walk.proofs.Members.{given}
+use Rattle.walk.proofs.Bearers.{bears-name}
+use Rattle.strict.specs.Strict.{Accepted, refused, verdict}
+use Rattle.strict.specs.Slots.{start}
+use Rattle.strict.proofs.Keeping.{any-true}
+use Rattle.edit.specs.Edit.{Run, holds, Slot, slotOf, freeRuns, lowest, buries, spanBytes, filled, write, afterCheck, adding, renewing, clearing, refusal, done, carriedOut, add, replace, remove}
+use Rattle.edit.proofs.Written.{Fit, name-fit, length-span}
+use Rattle.edit.proofs.Runs.{holds-true}
+use Rattle.edit.proofs.Decisions.{not-write, same-write, is-refused, refused-same, does, check-accepted, check-refused, check-write, Addable, AddCase, unfit, used, full, hidden, nowhere, placed, add-case, RenewCase, unborne, burying, long, fitting, renew-case, ClearCase, missing, clears, clear-case}
+use Rattle.edit.proofs.Outcomes.{Added, Replaced, Removed, added, replaced, removed, at}
+
+-- The region's numbers are bytes.
+abbrev pub Bytes : List ℕ → Type 0
+Bytes r = (i : ℕ) → getD r i 0 < 256
+
+be-below : (w : ℕ) (s : List ℕ) (i : ℕ) → Bytes s → be w s i < 256 ^ w
+unfolding be
+be-below zero s i h = omega arith
+be-below (suc w) s i h = rw (pow-suc 256 w) (omega (arith, be-below w s i h, h (i + w)))
+
+-- The name of a listed component is fit, and its type has 32 bits.
+
+pub listed-fit : (r : List ℕ) (a : ℕ) (t : Entry) → List·Memᴰ t (plainListing r a) → nameFits (t .component .name) ≡ true
+listed-fit r a t m = judge-name (drop (t .place) r) (t .component) (given false r a t m .judged) .0
+
+listed-kind : (r : List ℕ) (a : ℕ) → Bytes r → (t : Entry) → List·Memᴰ t (plainListing r a) → t .component .kind < 256 ^ 4
+unfolding componentOf
+listed-kind r a h t m =
+    let f = formed (drop (t .place) r) (t .component) (given false r a t m .judged) in
+    subst (λ (c : Component). c .kind < 256 ^ 4) (f .read) (be-below 4 (drop (t .place) r) 12 (λ i. rw (getD-drop (t .place) r i 0) (h (t .place + i))))
+
+-- The slot of a name's bearer, and no slot where nobody bears it.
+
+pub slot-member : (e : ℕ) (name : List ℕ) (l : List Entry) (z : Slot) → slotOf e name l ≡ some z → List·Memᴰ (z .entry) l × (bears name (z .entry) ≡ true)
+unfolding slotOf
+slot-member e name [] z g = absurd (Option·none-ne-some z g)
+slot-member e name (t ∷ ts) z g = go (bears name t) refl g (slot-member e name ts z)
+  where
+    go : (b : Bool) → bears name t ≡ b → cond b (some (record { entry = t; run = record { from = t .place; to = start e ts } })) (slotOf e name ts) ≡ some z
+        → (slotOf e name ts ≡ some z → List·Memᴰ (z .entry) ts × (bears name (z .entry) ≡ true)) → List·Memᴰ (z .entry) (t ∷ ts) × (bears name (z .entry) ≡ true)
+    go true h g′ ih = let q : t ≡ z .entry = cc in (List·Memᴰ·head (sym q), rw (← q) h)
+    go false h g′ ih = let m = ih g′ in (List·Memᴰ·tail (m .0), m .1)
+
+pub slot-borne : (e : ℕ) (name : List ℕ) (l : List Entry) → (slotOf e name l ≡ none) ↔ (any (bears name) l ≡ false)
+unfolding slotOf any
+slot-borne e name [] = (λ q. refl, λ q. refl)
+slot-borne e name (t ∷ ts) = go (bears name t) (slot-borne e name ts)
+  where
+    go : (b : Bool) → (slotOf e name ts ≡ none) ↔ (any (bears name) ts ≡ false)
+        → (cond b (some (record { entry = t; run = record { from = t .place; to = start e ts } })) (slotOf e name ts) ≡ none) ↔ (b || any (bears name) ts ≡ false)
+    go true ih = (λ q. absurd (Option·some-ne-none _ q), λ q. absurd (true≢false q))
+    go false ih = ih
+
+-- 16, in the paper's words: the bytes carry the magic, wholly, at a multiple of a above 0.
+pub buries-exactly : (a : ℕ) → 0 < a → (s : List ℕ) → (buries a s ≡ true) ↔ ((q : ℕ) × Place a q × (0 < q) × (carries s q ≡ true))
+unfolding buries
+buries-exactly a pos s = (only, λ h. of (h .0) (h .1) (h .2) (h .3) (buried s a 0 (length s)) refl)
+  where
+    only : buried s a 0 (length s) ≡ true → (q : ℕ) × Place a q × (0 < q) × (carries s q ≡ true)
+    only e =
+        let (q, m, c) = any-true (carries s) (places a (placesBelow a (length s) - 1) (0 + a)) (unfold buried in e) in
+        let (i, lt, at) = mem-places a (placesBelow a (length s) - 1) (0 + a) q m in
+        (q, (suc i, omega arith), omega arith, c)
+
+    of : (q : ℕ) → Place a q → 0 < q → carries s q ≡ true → (b : Bool) → buried s a 0 (length s) ≡ b → b ≡ true
+    of q pl lt c true e = refl
+    of q pl lt c false e = absurd (true≢false (sym c ∙ buried-false s a pos 0 (length s) (0, omega arith) e q pl lt (omega (arith, carries-fits s q c))))
+
+module _ (r : List ℕ) (a : ℕ) where
+  -- A refused edit changes no byte.
+
+  pub add-refused : (name : List ℕ) (kind : ℕ) (put : List ℕ) (n p : ℕ) → add 256 r a name kind put .reply ≡ refusal n p → add 256 r a name kind put .bytes ≡ r
+  unfolding add
+  add-refused name kind put n p e = refused-same r _ n p e
+
+  pub replace-refused : (name put : List ℕ) (n p : ℕ) → replace 256 r a name put .reply ≡ refusal n p → replace 256 r a name put .bytes ≡ r
+  unfolding replace
+  replace-refused name put n p e = refused-same r _ n p e
+
+  pub remove-refused : (name : List ℕ) (n p : ℕ) → remove 256 r a name .reply ≡ refusal n p → remove 256 r a name .bytes ≡ r
+  unfolding remove
+  remove-refused name n p e = refused-same r _ n p e
+
+  -- An edit that is done: the strict check still accepts, both lookups, every other name, both listings, the bytes outside the slot.
+
+  pub add-done : 8 ≤ a → (name : List ℕ) (kind : ℕ) (put : List ℕ) (p : ℕ) → kind < 256 ^ 4 → add 256 r a name kind put .reply ≡ done p → Added r a name kind put p (add 256 r a name kind put .bytes)
+  unfolding add
+  add-done big name kind put p typed e =
+      let d = does r (afterCheck (verdict 256 r a) (adding 256 r a name (spanBytes name kind put) (plainListing r a))) p e in
+      let f = check-write r a (adding 256 r a name (spanBytes name kind put) (plainListing r a)) (d .run) (d .bytes) (d .writes) in
+      go (f .0) (add-case 256 r a name (spanBytes name kind put) (plainListing r a)) (d .run) (d .bytes) (f .1) (d .place) _ (d .after)
+    where
+      by : Accepted r a → Addable 256 a name (spanBytes name kind put) (plainListing r a) → (y : Run) → lowest (length (spanBytes name kind put)) (freeRuns r a) ≡ some y
+          → (x : Run) (s : List ℕ) → y ≡ x → spanBytes name kind put ≡ s → x .from ≡ p → (r′ : List ℕ) → r′ ≡ filled r x s → Added r a name kind put p r′
+      by acc ok y low x s u b q r′ h = rw (h, ← b, ← q, ← u) (added r a big acc name kind put typed ok y low)
+
+      go : Accepted r a → AddCase 256 r a name (spanBytes name kind put) (plainListing r a) → (x : Run) (s : List ℕ) → adding 256 r a name (spanBytes name kind put) (plainListing r a) ≡ write x s
+          → x .from ≡ p → (r′ : List ℕ) → r′ ≡ filled r x s → Added r a name kind put p r′
+      go acc (unfit u v) x s w q r′ h = absurd (not-write 14 0 x s v w)
+      go acc (used u u₂ v) x s w q r′ h = absurd (not-write 15 0 x s v w)
+      go acc (full u u₂ u₃ v) x s w q r′ h = absurd (not-write 13 0 x s v w)
+      go acc (hidden u u₂ v) x s w q r′ h = absurd (not-write 16 0 x s v w)
+      go acc (nowhere u u₂ v) x s w q r′ h = absurd (not-write 17 0 x s v w)
+      go acc (placed y ok low v) x s w q r′ h = let z = same-write v w in by acc ok y low x s (z .0) (z .1) q r′ h
+
+  pub replace-done : 8 ≤ a → Bytes r → (name put : List ℕ) (p : ℕ) → replace 256 r a name put .reply ≡ done p → Replaced r a name put p (replace 256 r a name put .bytes)
+  unfolding replace
+  replace-done big bs name put p e =
+      let d = does r (afterCheck (verdict 256 r a) (renewing a name put (slotOf (length r) name (plainListing r a)))) p e in
+      let f = check-write r a (renewing a name put (slotOf (length r) name (plainListing r a))) (d .run) (d .bytes) (d .writes) in
+      go (f .0) (renew-case a (length r) name put (plainListing r a)) (d .run) (d .bytes) (f .1) (d .place) _ (d .after)
+    where
+      by : Accepted r a → (z : Slot) → slotOf (length r) name (plainListing r a) ≡ some z → buries a (spanBytes name (z .entry .component .kind) put) ≡ false
+          → holds (length (spanBytes name (z .entry .component .kind) put)) (z .run) ≡ true → (x : Run) (s : List ℕ) → z .run ≡ x → spanBytes name (z .entry .component .kind) put ≡ s
+          → x .from ≡ p → (r′ : List ℕ) → r′ ≡ filled r x s → Replaced r a name put p r′
+      by acc z own clean held x s u b q r′ h =
+          let m = slot-member (length r) name (plainListing r a) z own in
+          let k = holds-true (length (spanBytes name (z .entry .component .kind) put)) (z .run) held in
+          let fit : Fit name = name-fit name (rw (bears-name name (z .entry) (m .1)) at (listed-fit r a (z .entry) (m .0))) in
+          rw (h, ← b, ← q, ← u) (replaced r a big acc name z own put clean (k .1) fit (listed-kind r a bs (z .entry) (m .0)) (omega (arith, k .0, length-span name (z .entry .component .kind) put)))
+
+      go : Accepted r a → RenewCase a (length r) name put (plainListing r a) → (x : Run) (s : List ℕ) → renewing a name put (slotOf (length r) name (plainListing r a)) ≡ write x s
+          → x .from ≡ p → (r′ : List ℕ) → r′ ≡ filled r x s → Replaced r a name put p r′
+      go acc (unborne u v) x s w q r′ h = absurd (not-write 10 0 x s v w)
+      go acc (burying z u u₂ v) x s w q r′ h = absurd (not-write 16 0 x s v w)
+      go acc (long z u u₂ u₃ v) x s w q r′ h = absurd (not-write 17 0 x s v w)
+      go acc (fitting z own clean held v) x s w q r′ h = let y = same-write v w in by acc z own clean held x s (y .0) (y .1) q r′ h
+
+  pub remove-done : 8 ≤ a → (name : List ℕ) (p : ℕ) → remove 256 r a name .reply ≡ done p → Removed r a name p (remove 256 r a name .bytes)
+  unfolding remove
+  remove-done big name p e =
+      let d = does r (afterCheck (verdict 256 r a) (clearing (slotOf (length r) name (plainListing r a)))) p e in
+      let f = check-write r a (clearing (slotOf (length r) name (plainListing r a))) (d .run) (d .bytes) (d .writes) in
+      go (f .0) (clear-case (length r) name (plainListing r a)) (d .run) (d .bytes) (f .1) (d .place) _ (d .after)
+    where
+      by : Accepted r a → (z : Slot) → slotOf (length r) name (plainListing r a) ≡ some z → (x : Run) (s : List ℕ) → z .run ≡ x → [] ≡ s → x .from ≡ p → (r′ : List ℕ) → r′ ≡ filled r x s → Removed r a name p r′
+      by acc z own x s u b q r′ h = rw (h, ← b, ← q, ← u) (removed r a big acc name z own)
+
+      go : Accepted r a → ClearCase (length r) name (plainListing r a) → (x : Run) (s : List ℕ) → clearing (slotOf (length r) name (plainListing r a)) ≡ write x s
+          → x .from ≡ p → (r′ : List ℕ) → r′ ≡ filled r x s → Removed r a name p r′
+      go acc (missing u v) x s w q r′ h = absurd (not-write 10 0 x s v w)
+      go acc (clears z own v) x s w q r′ h = let y = same-write v w in by acc z own x s (y .0) (y .1) q r′ h
+
+  -- An add is done on accepted regions only.
+  pub add-accepted : (name : List ℕ) (kind : ℕ) (put : List ℕ) (p : ℕ) → add 256 r a name kind put .reply ≡ done p → Accepted r a
+  unfolding add
+  add-accepted name kind put p e =
+      let d = does r (afterCheck (verdict 256 r a) (adding 256 r a name (spanBytes name kind put) (plainListing r a))) p e in
+      check-write r a (adding 256 r a name (spanBytes name kind put) (plainListing r a)) (d .run) (d .bytes) (d .writes) .0
+
+  -- On an accepted region an edit comes to its own tests.
+
+  pub add-on : Accepted r a → (name : List ℕ) (kind : ℕ) (put : List ℕ) → add 256 r a name kind put ≡ carriedOut r (adding 256 r a name (spanBytes name kind put) (plainListing r a))
+  unfolding add
+  add-on acc name kind put = ap (carriedOut r) (check-accepted r a (adding 256 r a name (spanBytes name kind put) (plainListing r a)) acc)
+
+  pub replace-on : Accepted r a → (name put : List ℕ) → replace 256 r a name put ≡ carriedOut r (renewing a name put (slotOf (length r) name (plainListing r a)))
+  unfolding replace
+  replace-on acc name put = ap (carriedOut r) (check-accepted r a (renewing a name put (slotOf (length r) name (plainListing r a))) acc)
+
+  pub remove-on : Accepted r a → (name : List ℕ) → remove 256 r a name ≡ carriedOut r (clearing (slotOf (length r) name (plainListing r a)))
+  unfolding remove
+  remove-on acc name = ap (carriedOut r) (check-accepted r a (clearing (slotOf (length r) name (plainListing r a))) acc)
+
+  -- The strict check's refusals come first: 12, with its place, 13, 11.
+
+  pub add-checked : (name : List ℕ) (kind : ℕ) (put : List ℕ) (n p : ℕ) → verdict 256 r a ≡ refused n p → add 256 r a name kind put .reply ≡ refusal n p
+  unfolding add
+  add-checked name kind put n p v = is-refused r _ n p (check-refused r a (adding 256 r a name (spanBytes name kind put) (plainListing r a)) n p v)
+
+  pub replace-checked : (name put : List ℕ) (n p : ℕ) → verdict 256 r a ≡ refused n p → replace 256 r a name put .reply ≡ refusal n p
+  unfolding replace
+  replace-checked name put n p v = is-refused r _ n p (check-refused r a (renewing a name put (slotOf (length r) name (plainListing r a))) n p v)
+
+  pub remove-checked : (name : List ℕ) (n p : ℕ) → verdict 256 r a ≡ refused n p → remove 256 r a name .reply ≡ refusal n p
+  unfolding remove
+  remove-checked name n p v = is-refused r _ n p (check-refused r a (clearing (slotOf (length r) name (plainListing r a))) n p v)

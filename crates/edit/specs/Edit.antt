@@ -1,0 +1,168 @@
+-- The edits of a region's bytes r at the alignment a (document 01, "Edits", refusals 10 to 17): what each answers, and the bytes afterwards.
+-- Places are told from the region's start.
+use Prim.Native.Nat.{ℕ, _+_, _*_, _-_, _/_}
+use mathlib.Core.List.{List, [], _∷_, _++_}
+use mathlib.Core.Bool.{Bool, cond, not, _&&_}
+use mathlib.Core.Option.{Option, some, none}
+use lib.ListN.{length, replicate}
+use lib.Dec.{ltb, leb, eqb}
+use Rattle.number.specs.Number.{beBytes}
+use Rattle.number.specs.Bytes.{splice}
+use Rattle.component.specs.Component.{magic}
+use Rattle.component.specs.Names.{nameFits}
+use Rattle.walk.specs.Lists.{any, keep}
+use Rattle.walk.specs.Walk.{Entry, buried, next, plainListing}
+use Rattle.walk.specs.Lookup.{bears}
+use Rattle.terms.specs.Refusals.{Test, test}
+use Rattle.strict.specs.Strict.{Verdict, refused, accepted, verdict}
+use Rattle.strict.specs.Slots.{start}
+
+-- "A written name field is the shortest multiple of 16 that holds the name and one zero."
+unfoldable pub fieldSize : ℕ → ℕ
+fieldSize n = (n / 16 + 1) * 16
+
+-- The offset of a component that is written.
+abbrev pub offsetFor : List ℕ → ℕ
+offsetFor name = 24 + fieldSize (length name)
+
+-- The 24 bytes of a header: the magic, len, type, the checksum, which is written 0, and offset.
+unfoldable pub headerBytes : ℕ → ℕ → ℕ → List ℕ
+headerBytes len kind offset = magic ++ (beBytes 4 len ++ (beBytes 4 kind ++ (beBytes 4 0 ++ beBytes 4 offset)))
+
+-- The bytes of the name field: the name, and zeros.
+unfoldable pub fieldBytes : List ℕ → List ℕ
+fieldBytes name = name ++ replicate (fieldSize (length name) - length name) 0
+
+-- The bytes of a whole component: its span.
+unfoldable pub spanBytes : List ℕ → ℕ → List ℕ → List ℕ
+spanBytes name kind content = headerBytes (length content) kind (offsetFor name) ++ (fieldBytes name ++ content)
+
+-- 16: "the span to be written, by itself and whether or not it fits, holds LARCHIVE wholly at a multiple of align above 0 from its start".
+unfoldable pub buries : ℕ → List ℕ → Bool
+buries a s = buried s a 0 (length s)
+
+-- The bytes from `from` up to `to`.
+pub record Run : Type 0 where
+  pub from : ℕ
+  pub to : ℕ
+
+-- The run holds a span of n bytes from its start on. No run holds one of 2^32 bytes or more, since a header's len has 32 bits.
+abbrev pub holds : ℕ → Run → Bool
+holds n x = leb n 0xFFFFFFFF && leb (x .from + n) (x .to)
+
+-- "A free run goes from the region's start, or from the first place at or after a span's end, to the next component's start or the region's end."
+-- These are the free runs from n on, of the components that are listed from there on.
+unfoldable pub runs : List ℕ → ℕ → ℕ → List Entry → List Run
+runs r a n [] = record { from = n; to = length r } ∷ []
+runs r a n (t ∷ ts) = record { from = n; to = t .place } ∷ runs r a (next r a t) ts
+
+abbrev pub freeRuns : List ℕ → ℕ → List Run
+freeRuns r a = runs r a 0 (plainListing r a)
+
+-- "Add uses the lowest place at which the component fits a free run": the first run that holds n bytes.
+unfoldable pub lowest : ℕ → List Run → Option Run
+lowest n [] = none
+lowest n (x ∷ xs) = let rest = lowest n xs in cond (holds n x) (some x) rest
+
+-- A component with its slot: up to the next component's start, or the region's end.
+pub record Slot : Type 0 where
+  pub entry : Entry
+  pub run : Run
+
+-- The slot of the first bearer of the name; e is the region's end.
+unfoldable pub slotOf : ℕ → List ℕ → List Entry → Option Slot
+slotOf e name [] = none
+slotOf e name (t ∷ ts) = let rest = slotOf e name ts in cond (bears name t) (some (record { entry = t; run = record { from = t .place; to = start e ts } })) rest
+
+-- "After the written span, every byte to the next component's start or the region's end is 0xFF": the region with the slot x written anew.
+unfoldable pub filled : List ℕ → Run → List ℕ → List ℕ
+filled r x s = splice r (x .from) (s ++ replicate (x .to - x .from - length s) 0xFF)
+
+-- What an edit comes to: a refusal by its number, with the place that it tells, or a slot and the span to write there.
+pub data Decision : Type 0 where
+  refuse : ℕ → ℕ → Decision
+  write : Run → List ℕ → Decision
+
+-- The first test that fails refuses, and tells place 0.
+abbrev pub orRefused : List Test → Decision → Decision
+orRefused [] d = d
+orRefused (t ∷ ts) d = cond (t .passed) (orRefused ts d) (refuse (t .number) 0)
+
+-- What the strict check refuses comes first: 12, 13, 11.
+abbrev pub afterCheck : Verdict → Decision → Decision
+afterCheck (refused n p) d = refuse n p
+afterCheck (accepted ps) d = d
+
+abbrev pub into : List ℕ → Option Run → Decision
+into s none = refuse 17 0
+into s (some x) = write x s
+
+-- Add, with the components l listed and at most that many allowed: 14, 15, 13, 16, 17.
+unfoldable pub adding : ℕ → List ℕ → ℕ → List ℕ → List ℕ → List Entry → Decision
+adding most r a name s l = orRefused (
+    test 14 (nameFits name)
+    ∷ test 15 (not (any (bears name) l))
+    ∷ test 13 (ltb (length l) most)
+    ∷ test 16 (not (buries a s))
+    ∷ []
+    ) (into s (lowest (length s) (runs r a 0 l)))
+
+-- Replace: 10, 16, 17. It "keeps place, name and type, writes the whole component anew and must fit the slot".
+unfoldable pub renewing : ℕ → List ℕ → List ℕ → Option Slot → Decision
+renewing a name content none = refuse 10 0
+renewing a name content (some z) = let s = spanBytes name (z .entry .component .kind) content in
+    orRefused (test 16 (not (buries a s)) ∷ test 17 (holds (length s) (z .run)) ∷ []) (write (z .run) s)
+
+-- Remove: 10. It "sets the whole slot to 0xFF".
+unfoldable pub clearing : Option Slot → Decision
+clearing none = refuse 10 0
+clearing (some z) = write (z .run) []
+
+-- What is answered: a refusal's number and the place that it tells, or the place of the component.
+pub data Reply : Type 0 where
+  refusal : ℕ → ℕ → Reply
+  done : ℕ → Reply
+
+-- The answer, and the region's bytes afterwards.
+pub record Outcome : Type 0 where
+  pub reply : Reply
+  pub bytes : List ℕ
+
+unfoldable pub carriedOut : List ℕ → Decision → Outcome
+carriedOut r (refuse n p) = record { reply = refusal n p; bytes = r }
+carriedOut r (write x s) = record { reply = done (x .from); bytes = filled r x s }
+
+-- The decisions of the three edits, the strict check's refusals first.
+
+abbrev pub toAdd : ℕ → List ℕ → ℕ → List ℕ → ℕ → List ℕ → Decision
+toAdd most r a name kind content = afterCheck (verdict most r a) (adding most r a name (spanBytes name kind content) (plainListing r a))
+
+abbrev pub toReplace : ℕ → List ℕ → ℕ → List ℕ → List ℕ → Decision
+toReplace most r a name content = afterCheck (verdict most r a) (renewing a name content (slotOf (length r) name (plainListing r a)))
+
+abbrev pub toRemove : ℕ → List ℕ → ℕ → List ℕ → Decision
+toRemove most r a name = afterCheck (verdict most r a) (clearing (slotOf (length r) name (plainListing r a)))
+
+-- The three edits.
+
+unfoldable pub add : ℕ → List ℕ → ℕ → List ℕ → ℕ → List ℕ → Outcome
+add most r a name kind content = carriedOut r (toAdd most r a name kind content)
+
+unfoldable pub replace : ℕ → List ℕ → ℕ → List ℕ → List ℕ → Outcome
+replace most r a name content = carriedOut r (toReplace most r a name content)
+
+unfoldable pub remove : ℕ → List ℕ → ℕ → List ℕ → Outcome
+remove most r a name = carriedOut r (toRemove most r a name)
+
+-- For what is listed afterwards: a list with t put in, in the order of places; with t instead of what stands at its place; without what stands at p.
+
+unfoldable pub putIn : Entry → List Entry → List Entry
+putIn t [] = t ∷ []
+putIn t (u ∷ us) = let rest = putIn t us in cond (ltb (t .place) (u .place)) (t ∷ u ∷ us) (u ∷ rest)
+
+unfoldable pub instead : Entry → List Entry → List Entry
+instead t [] = []
+instead t (u ∷ us) = cond (eqb (u .place) (t .place)) t u ∷ instead t us
+
+abbrev pub without : ℕ → List Entry → List Entry
+without p l = keep (λ u. not (eqb (u .place) p)) l

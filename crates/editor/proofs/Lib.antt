@@ -1,0 +1,6 @@
+pub mod Burying
+pub mod Finding
+pub mod Writing
+pub mod Choosing
+pub mod Faces
+pub mod Around

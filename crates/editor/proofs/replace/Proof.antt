@@ -1,0 +1,70 @@
+use mathlib.Core.Path.{refl, sym, _∙_}
+use native.Mathlib.Omega.{arith}
+use Rattle.terms.specs.Terms.{bytesOf}
+use Rattle.strict.specs.Strict.{limit}
+use Rattle.edit.specs.Edit.{replace, toReplace}
+use Rattle.editor.specs.Code.{kindOf}
+use Rattle.editor.specs.Image.{replaceIn}
+use Rattle.editor.proofs.Writing.{edit-refused}
+use Rattle.editor.proofs.Faces.{Puts, replace-puts}
+use borrow.Author.Needs.{needs}
+use Rattle.editor.proofs.replace.Statement.{statement}
+use Rattle.editor.proofs.replace.Tie as tie
+
+-- where the paths begin, and what the decision says of the slot
+abbrev start : tie.After-decide-replace → tie.Start
+start c = c .before .before .before .before .before
+
+says : (c : tie.After-known-told2) → let a = start (c .before .before .before) .args in Puts (a .image .now) (a .region) (a .name .now) (a .content .now) (c .before .c2 .given .0 .0) (replaceIn (a .image .now) (a .region) (a .name .now) (a .content .now))
+says c = let w = c .before .before .before in let a = start w .args in replace-puts (a .image .now) (a .region) (a .name .now) (a .content .now) (c .before .c2 .given .0 .0) (sym (w .decide-replace .ensures) ∙ c .before .c2 .given .1)
+
+decide-replace-requires : tie.Need-decide-replace-requires
+decide-replace-requires c κs = search needs
+
+enum-known-c : tie.Need-enum-known-c
+enum-known-c c = search needs
+
+enum-known-c-2 : tie.Need-enum-known-c-2
+enum-known-c-2 c = search needs
+
+put-at-requires : tie.Need-put-at-requires
+put-at-requires c κs = let p = says (c .before) in (p .short, p .told, p .fits, p .inside)
+
+add-t14 : tie.Need-add-t14
+add-t14 c =
+    let p = says (c .before .before .before .before .before .before) in
+    omega (arith, p .inside, p .fits)
+
+same-length : tie.Need-same-length
+same-length c = search needs
+
+returns : tie.Need-returns
+unfolding replace
+returns c =
+    let w = c .before .before .before in
+    let a = start w .args in
+    let e = edit-refused (a .image .now) (a .region) (toReplace limit (bytesOf (a .image .now) (a .region)) (a .region .align) (a .name .now) (a .content .now)) (kindOf (bytesOf (a .image .now) (a .region)) (a .region .align) (a .name .now)) (c .before .c .given .0 .0) (sym (w .decide-replace .ensures) ∙ c .before .c .given .1) in
+    (e .0, (e .1, (refl, refl)))
+
+same-length-2 : tie.Need-same-length-2
+same-length-2 c = search needs
+
+returns-2 : tie.Need-returns-2
+returns-2 c =
+    let q = c .before .before .before .before in
+    let p = says (q .before .before) in
+    (p .answer, (q .put-at .ensures ∙ p .bytes, (refl, refl)))
+
+pub replace-spec : {M : Type 1} → statement M
+replace-spec =
+    tie.close
+    (tie.spec
+    decide-replace-requires
+    enum-known-c
+    enum-known-c-2
+    put-at-requires
+    add-t14
+    same-length
+    returns
+    same-length-2
+    returns-2)

@@ -1,0 +1,443 @@
+//! The capability "edits": operations a, r and d. Document 01, "Edits".
+
+use std::sync::Arc;
+
+use crate::accepted::{accepted, many};
+use crate::bytes::hex;
+use crate::capability::{reached, Batch, Both, Capability, Literal};
+use crate::cases::{self, long_name, random_content, random_kind, random_name};
+use crate::edit::{self, Refusal};
+use crate::guarded::{raw_region, strict_holds, strict_pairs};
+use crate::image::{bench_a, image_a, lay, put, Frame, Raw};
+use crate::master::{self, Region};
+use crate::plain::master_pairs;
+use crate::protocol::{refused, Case};
+use crate::rng::Rng;
+use crate::walk::{self, Component, LARCHIVE};
+use crate::{conditions, strict};
+
+pub fn capability() -> Capability {
+    Capability { name: "edits", operations: "ard", answer, outcomes, pairs, bench, both, generated, share: 50 }
+}
+
+/// The edit of a case: its result, and the image afterwards.
+fn edited(case: &Case) -> (Result<usize, Refusal>, Vec<u8>) {
+    let mut image = case.image.to_vec();
+    let result = match case.op {
+        b'a' => edit::add(&mut image, &case.name, case.number as u32, &case.content),
+        b'r' => edit::replace(&mut image, &case.name, &case.content),
+        _ => edit::remove(&mut image, &case.name),
+    };
+    (result, image)
+}
+
+fn answer(case: &Case) -> String {
+    let (result, image) = edited(case);
+    let first = match result {
+        Ok(place) => format!("done\t{place}\n"),
+        Err((number, place)) => refused(number, place),
+    };
+    format!("{first}image\t{}\n", hex(&image))
+}
+
+/// The order's demand 2 on an accepted edit, seen by the reference: the strict check still accepts; the new content is
+/// found under its name, or a removed name nowhere; every other component is as it was.
+fn demanded(case: &Case) -> Result<(), String> {
+    let (result, image) = edited(case);
+    let Ok(place) = result else {
+        return if image == *case.image { Ok(()) } else { Err("a refused edit changed the image".into()) };
+    };
+    let region = master::region(&image).map_err(|_| "an edit broke the master header")?;
+    let before = strict::check(&case.image, region).map_err(|_| "an edit of an image not accepted")?;
+    let after = strict::check(&image, region).map_err(|_| "an edited image is not accepted")?;
+    let own = strict::guarded_lookup(&image, region, &case.name);
+    let good = match (case.op, own) {
+        (b'd', own) => own == Err(10),
+        (_, Ok(it)) => it.place == place && image[it.content..it.end] == case.content[..],
+        (_, Err(_)) => false,
+    };
+    let others = |list: &[Component], bytes: &[u8]| -> Vec<(Component, Vec<u8>)> {
+        list.iter().filter(|it| it.name != case.name).map(|it| (it.clone(), bytes[it.place..it.end].to_vec())).collect()
+    };
+    if good && others(&before, &case.image) == others(&after, &image) {
+        Ok(())
+    } else {
+        Err("an edit broke demand 2".into())
+    }
+}
+
+fn outcomes() -> Vec<(u8, String)> {
+    let all = [1, 2, 3, 4, 5, 6, 7, 8, 12, 13, 11];
+    let mut list = reached("ard", &["done"], &all);
+    list.extend(reached("a", &[], &[14, 15, 16, 17]));
+    list.extend(reached("r", &[], &[10, 16, 17]));
+    list.extend(reached("d", &[], &[10]));
+    list
+}
+
+fn pairs() -> Vec<(u8, u32, u32)> {
+    let mut list = Vec::new();
+    for op in "ard".bytes() {
+        list.extend((1..=7).map(|number| (op, number, number + 1)));
+        list.extend([(op, 8, 12), (op, 12, 13), (op, 13, 11), (op, 12, 11)]);
+    }
+    // 14 and 15 cannot hold together, so each stands with what comes before and after the two.
+    list.extend([(b'a', 11, 14), (b'a', 11, 15), (b'a', 14, 13), (b'a', 15, 13), (b'a', 13, 16), (b'a', 16, 17)]);
+    list.extend([(b'a', 14, 17), (b'a', 15, 16), (b'a', 13, 17)]);
+    list.extend([(b'r', 11, 10), (b'r', 10, 16), (b'r', 10, 17), (b'r', 16, 17), (b'd', 11, 10)]);
+    list
+}
+
+/// The conditions of 10 and 14 to 17 by themselves; 13 as add has it.
+fn edit_holds(number: u32, case: &Case) -> bool {
+    let image = &case.image;
+    let region = raw_region(image);
+    let list = walk::listing(image, region, walk::judge);
+    let bears = list.iter().position(|it| it.name == case.name);
+    let bytes = edit::span(&case.name, 0, &case.content);
+    match number {
+        10 => bears.is_none(),
+        13 => list.len() >= 256,
+        14 => edit::unfit(&case.name),
+        15 => bears.is_some(),
+        16 => edit::buried(&bytes, region.align),
+        _ if case.op == b'a' => edit::free_runs(&list, region).iter().all(|(start, end)| end - start < bytes.len()),
+        // A replace of a name that nobody bears has no slot; the whole region stands for it.
+        _ => {
+            let slot = bears.map_or((region.start, region.end), |index| strict::slots(&list, region)[index]);
+            slot.1 - slot.0 < bytes.len()
+        }
+    }
+}
+
+fn both() -> Vec<Both> {
+    let mut list = Vec::new();
+    for op in "ard".bytes() {
+        for (first, image) in master_pairs() {
+            let case = Case::new(op, &image, "two refusals").named(b"a").holding(b"x");
+            let first_holds = conditions::holds(first, &image);
+            let second_holds = conditions::holds(first + 1, &image);
+            list.push(Both { case, first, second: first + 1, first_holds, second_holds });
+        }
+        for (first, second, image) in strict_pairs() {
+            let case = Case::new(op, &image, "two refusals").named(b"c0").holding(b"x");
+            let first_holds = if first == 8 { conditions::holds(8, &image) } else { strict_holds(first, &image) };
+            let second_holds = strict_holds(second, &image);
+            list.push(Both { case, first, second, first_holds, second_holds });
+        }
+    }
+
+    let same = Arc::new(many(3, true));
+    let few = Arc::new(many(3, false));
+    let full = Arc::new(many(256, false));
+    let mut spelled = vec![b'x'; 24];
+    spelled[8..16].copy_from_slice(LARCHIVE);
+    let mut much = vec![0; 40_000];
+    much[8..16].copy_from_slice(LARCHIVE);
+    let plenty = vec![0; 40_000];
+    let none: &[u8] = b"";
+    let table: [(u8, u32, u32, &Arc<Vec<u8>>, &[u8], &[u8]); 16] = [
+        (b'a', 11, 14, &same, none, none),
+        (b'a', 11, 15, &same, b"c1", none),
+        (b'a', 14, 13, &full, b"a b", none),
+        (b'a', 15, 13, &full, b"c7", none),
+        (b'a', 13, 16, &full, b"new", &spelled),
+        (b'a', 13, 17, &full, b"new", &plenty),
+        (b'a', 16, 17, &few, b"new", &much),
+        (b'a', 14, 17, &few, none, &plenty),
+        (b'a', 15, 16, &few, b"c1", &spelled),
+        (b'a', 15, 16, &few, b"c2", &much),
+        (b'r', 11, 10, &same, b"new", none),
+        (b'r', 10, 16, &few, b"new", &spelled),
+        (b'r', 10, 17, &few, b"new", &plenty),
+        (b'r', 16, 17, &few, b"c1", &much),
+        (b'r', 16, 17, &full, b"c255", &much),
+        (b'd', 11, 10, &same, b"new", none),
+    ];
+    for (op, first, second, image, name, content) in table {
+        let case = Case::new(op, image, "two refusals").named(name).holding(content);
+        let first_holds = if first == 11 { strict_holds(11, image) } else { edit_holds(first, &case) };
+        let second_holds = edit_holds(second, &case);
+        list.push(Both { case, first, second, first_holds, second_holds });
+    }
+    list
+}
+
+fn bench() -> Vec<Literal> {
+    let mut list = Vec::new();
+    let a = Arc::new(image_a());
+    let mut add = |case: Case, first: &str, image: &[u8]| {
+        list.push(Literal { case, answer: format!("{first}\nimage\t{}\n", hex(image)) });
+    };
+    let ask = |op: u8, name: &[u8], content: &[u8]| Case::new(op, &a, "bench").named(name).holding(content);
+    let refusal = |number: u32| format!("refused\t{number}\t0\t0");
+
+    // Replace cal/12 by 152 bytes fits, 153: 17.
+    let mut image = image_a();
+    put(&mut image, 8, &[0, 0, 0, 152]);
+    put(&mut image, 40, &[0x5A; 152]);
+    add(ask(b'r', b"cal/12", &[0x5A; 152]), "done\t0", &image);
+    add(ask(b'r', b"cal/12", &[0x5A; 153]), &refusal(17), &a);
+    // A shorter one leaves nothing behind.
+    let mut image = image_a();
+    put(&mut image, 8, &[0, 0, 0, 3]);
+    put(&mut image, 40, b"abc");
+    put(&mut image, 43, &[0xFF; 149]);
+    add(ask(b'r', b"cal/12", b"abc"), "done\t0", &image);
+    // Add log of 2776 bytes goes to 256; 2777: 17.
+    let header = |length: u32, kind: u32, offset: u32| -> Vec<u8> {
+        let mut bytes = b"LARCHIVE".to_vec();
+        for number in [length, kind, 0, offset] {
+            bytes.extend(number.to_be_bytes());
+        }
+        bytes
+    };
+    let with = |name: &[u8], field: usize, content: &[u8]| -> Vec<u8> {
+        let mut image = image_a();
+        put(&mut image, 256, &header(content.len() as u32, 7, 24 + field as u32));
+        put(&mut image, 280, &vec![0; field]);
+        put(&mut image, 280, name);
+        put(&mut image, 280 + field as i64, content);
+        image
+    };
+    add(ask(b'a', b"log", &[1; 2776]).numbered(7), "done\t256", &with(b"log", 16, &[1; 2776]));
+    add(ask(b'a', b"log", &[1; 2777]).numbered(7), &refusal(17), &a);
+    // LARCHIVE at content byte 24: 16; at byte 25 accepted.
+    for (at, good) in [(23, true), (24, false), (25, true)] {
+        let mut content = vec![0; 60];
+        content[at..at + 8].copy_from_slice(LARCHIVE);
+        let case = ask(b'a', b"log", &content).numbered(7);
+        if good {
+            add(case, "done\t256", &with(b"log", 16, &content));
+        } else {
+            add(case, &refusal(16), &a);
+        }
+    }
+    // Name of 15 bytes: offset 40; of 16: offset 56; of 255: 280.
+    for (length, field) in [(15, 16), (16, 32), (255, 256)] {
+        let name = vec![b'n'; length];
+        add(ask(b'a', &name, b"table").numbered(7), "done\t256", &with(&name, field, b"table"));
+    }
+    // Align 16, new name xxxxxxxxLARCHIVE: 16.
+    let (mut frame, components) = bench_a();
+    frame.align = 16;
+    let sixteen = Arc::new(lay(&frame, &components));
+    let case = Case::new(b'a', &sixteen, "bench").named(b"xxxxxxxxLARCHIVE").numbered(7);
+    add(case, &refusal(16), &sixteen);
+    // Remove sets the whole slot to 0xFF.
+    let mut image = image_a();
+    put(&mut image, 0, &[0xFF; 192]);
+    add(ask(b'd', b"cal/12", b""), "done\t0", &image);
+    add(ask(b'd', b"cal/1", b""), &refusal(10), &a);
+    // An image with cal/12's len made 500: 12 and its place.
+    let long = crate::bench::long_cal_12();
+    for op in "ard".bytes() {
+        let case = Case::new(op, &long, "bench").named(b"cal/13").holding(b"x");
+        add(case, "refused\t12\t192\t0", &long);
+    }
+    list
+}
+
+/// Three components with gaps between, the region's end off a multiple of align; none where they are not accepted.
+fn three(rng: &mut Rng, align: usize, length: usize, gap: usize) -> Option<(Arc<Vec<u8>>, Region, Vec<Component>)> {
+    let end = length - 50 - rng.below(20);
+    let mut image = if rng.one_in(2) { vec![0xFF; length] } else { rng.bytes(length) };
+    let step = (48 / align + 1 + gap) * align;
+    for (index, name) in ["one", "two", "three"].iter().enumerate() {
+        let at = align + index * step;
+        if at + 48 <= end {
+            let raw = Raw::new(name.as_bytes(), index as u32, &[5; 8]);
+            // The second one has a longer name field than it needs.
+            let raw = if index == 1 && step >= 80 { raw.with_field(32) } else { raw };
+            put(&mut image, at as i64, &raw.bytes());
+        }
+    }
+    Frame::new(length, 40, length - end, align, 0).stamp(&mut image);
+    let region = master::region(&image).ok()?;
+    let list = strict::check(&image, region).ok()?;
+    Some((Arc::new(image), region, list))
+}
+
+/// Contents that fill a room exactly, and that miss it by one.
+fn rooms(image: &Arc<Vec<u8>>, region: Region, list: &[Component], cases: &mut Vec<Case>) {
+    let fills = |room: (usize, usize), name: &[u8]| -> Vec<Vec<u8>> {
+        let most = (room.1 - room.0) as i64 - edit::span(name, 0, &[]).len() as i64;
+        (most - 1..=most + 1).filter(|fill| *fill >= 0).map(|fill| vec![0x33; fill as usize]).collect()
+    };
+    for name in [&b"n"[..], &long_name(15), &long_name(16), &long_name(255)] {
+        for run in edit::free_runs(list, region) {
+            for content in fills(run, name) {
+                cases.push(Case::new(b'a', image, "edge").named(name).holding(&content).numbered(9));
+            }
+        }
+    }
+    for (component, slot) in list.iter().zip(strict::slots(list, region)) {
+        for content in fills(slot, &component.name) {
+            cases.push(Case::new(b'r', image, "edge").named(&component.name).holding(&content));
+        }
+        cases.push(Case::new(b'r', image, "edge").named(&component.name));
+        cases.push(Case::new(b'd', image, "edge").named(&component.name));
+    }
+}
+
+/// The magic in the content, around each multiple of align, whole and cut by the content's end.
+fn magic_in_content(rng: &mut Rng, image: &Arc<Vec<u8>>, align: usize, component: &Component, cases: &mut Vec<Case>) {
+    let head = edit::span(&component.name, 0, &[]).len() as i64;
+    for shift in (-8i64..=8).flat_map(|shift| [shift + align as i64, shift + 2 * align as i64, shift + 3 * align as i64]) {
+        let at = shift - head;
+        for size in [at + 7, at + 8, at + 20] {
+            let near = (shift + 1) % align as i64 <= 2;
+            if at >= -7 && (0..4000).contains(&size) && (near || rng.one_in(4)) {
+                let mut content = vec![0x20; size as usize];
+                put(&mut content, at, LARCHIVE);
+                let op = *rng.pick(b"ar");
+                let name = if op == b'r' { component.name.clone() } else { b"other".to_vec() };
+                cases.push(Case::new(op, image, "magic in content").named(&name).holding(&content));
+            }
+        }
+    }
+}
+
+/// The magic in the name, and names at their edges.
+fn edge_names(image: &Arc<Vec<u8>>, cases: &mut Vec<Case>) {
+    for at in 0..40 {
+        for tail in [&b""[..], b"y"] {
+            let name = [&vec![b'x'; at][..], LARCHIVE, tail].concat();
+            cases.push(Case::new(b'a', image, "magic in name").named(&name));
+        }
+    }
+    let mut names = vec![Vec::new(), long_name(256), long_name(254), long_name(1024), vec![0], b"on".to_vec(), b"ones".to_vec()];
+    for byte in [0, 0x1F, 0x20, 0x21, 0x7E, 0x7F, 0x80, 0xFF] {
+        names.push(vec![byte]);
+        names.push(vec![b'a', byte, b'b']);
+        names.push([&long_name(14)[..], &[byte]].concat());
+    }
+    for name in names {
+        for op in "ard".bytes() {
+            cases.push(Case::new(op, image, "name").named(&name).holding(b"t").numbered(0xFFFF_FFFF));
+        }
+    }
+}
+
+/// Regions in which nothing or just one component fits; and 255, 256 and 257 components.
+fn few_and_many(rng: &mut Rng, cases: &mut Vec<Case>) {
+    for size in (0..100).chain([279, 280, 281]) {
+        let length = size + 64;
+        let image = Arc::new(Frame::new(length, 64, 64, 16, 0).over(rng.bytes(length)));
+        for content in [0, 1, 16] {
+            cases.push(Case::new(b'a', &image, "small region").named(b"n").holding(&vec![1; content]));
+        }
+        cases.push(Case::new(b'a', &image, "small region").named(&long_name(255)));
+    }
+    for count in [255, 256, 257] {
+        let image = Arc::new(many(count, false));
+        for (op, name, fill) in [
+            (b'a', &b"new"[..], 0),
+            (b'a', b"new", 9),
+            (b'a', b"c3", 0),
+            (b'a', b"", 0),
+            (b'r', b"c3", 0),
+            (b'r', b"c9", 8),
+            (b'r', b"c9", 9),
+            (b'r', b"new", 0),
+            (b'd', b"c3", 0),
+            (b'd', b"c254", 0),
+        ] {
+            cases.push(Case::new(op, &image, "crowd").named(name).holding(&vec![1; fill]));
+        }
+    }
+}
+
+/// Single edits at every boundary.
+fn edges(rng: &mut Rng, cases: &mut Vec<Case>) {
+    for (align, length) in [(16, 600), (64, 1200), (256, 2400), (1024, 5000)] {
+        for gap in [0, 1, 2] {
+            if let Some((image, region, list)) = three(rng, align, length, gap) {
+                rooms(&image, region, &list, cases);
+                for component in &list {
+                    magic_in_content(rng, &image, align, component, cases);
+                }
+                edge_names(&image, cases);
+            }
+        }
+    }
+    few_and_many(rng, cases);
+}
+
+/// One random edit of an image, often at an edge of a room in it.
+fn random_edit(rng: &mut Rng, image: &Arc<Vec<u8>>) -> Case {
+    let mut rooms = vec![60];
+    let mut names = vec![b"a".to_vec()];
+    if let Ok(region) = master::region(image) {
+        if let Ok(list) = strict::check(image, region) {
+            rooms.extend(edit::free_runs(&list, region).iter().map(|(start, end)| end - start));
+            rooms.extend(strict::slots(&list, region).iter().map(|(start, end)| end - start));
+            names.extend(list.iter().map(|it| it.name.clone()));
+        }
+    }
+    let op = *rng.pick(b"aaarrd");
+    let known = rng.pick(&names).clone();
+    let name = match op {
+        b'a' if !rng.one_in(12) => random_name(rng),
+        b'r' | b'd' if rng.one_in(12) => rng.pick(&cases::around(&known)).clone(),
+        _ => known,
+    };
+    let head = 24 + (name.len() + 1).div_ceil(16) * 16;
+    let room = rng.pick(&rooms).saturating_sub(head);
+    let length = match rng.below(6) {
+        0 => room,
+        1 => room + 1,
+        2 => room.saturating_sub(1),
+        3 => rng.below(room + 1),
+        _ => rng.below(70),
+    };
+    let content = if op == b'd' { Vec::new() } else { random_content(rng, length) };
+    let kind = random_kind(rng) as u64;
+    Case::new(op, image, "random edit").named(&name).holding(&content).numbered(if op == b'a' { kind } else { 0 })
+}
+
+fn generated(seed: u64, count: usize) -> Vec<Batch> {
+    let mut rng = Rng::new(seed ^ 0xED17);
+    let mut cases = Vec::new();
+    edges(&mut rng, &mut cases);
+
+    // Refused images of every kind.
+    for scene in cases::fixed(&mut rng) {
+        let seldom = scene.note.starts_with("master") || scene.note.starts_with("pointer") || scene.note.starts_with("length");
+        if seldom && scene.image.len() < 5_000 && rng.one_in(6) {
+            for op in "ard".bytes() {
+                cases.push(Case::new(op, &scene.image, scene.note).named(b"a").holding(b"x"));
+            }
+        }
+    }
+    let target = cases.len() + count / 5;
+    while cases.len() < target {
+        let scene = cases::random(&mut rng);
+        if scene.image.len() < 5_000 {
+            cases.push(random_edit(&mut rng, &scene.image));
+        }
+    }
+
+    // Sequences of edits on one image.
+    let target = cases.len() + count * 3 / 5;
+    while cases.len() < target {
+        let most = if rng.one_in(20) { 8_192 } else { 2_500 };
+        let mut image = Arc::new(accepted(&mut rng, most));
+        for _ in 0..rng.range(3, 25) {
+            let case = random_edit(&mut rng, &image);
+            let (_, after) = edited(&case);
+            image = Arc::new(after);
+            cases.push(case);
+        }
+    }
+
+    // The reference's own edits keep the order's demand 2.
+    let mut broken = None;
+    for case in &cases {
+        if let Err(text) = demanded(case) {
+            broken = Some(format!("the reference: {text}: {}", case.describe()));
+        }
+    }
+    let after: crate::capability::After = Box::new(move |_| broken.clone().map_or(Ok(()), Err));
+    vec![Batch { cases, after: Some(after) }]
+}
