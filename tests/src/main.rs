@@ -18,9 +18,11 @@ mod flashmap;
 mod guarded;
 mod image;
 mod listings;
+mod load;
 mod maps;
 mod master;
 mod plain;
+mod plans;
 mod program;
 mod protocol;
 mod rng;
@@ -42,7 +44,7 @@ use tally::Tally;
 /// The capabilities that are tested. Each is a module of its own and one line here.
 #[rustfmt::skip]
 fn capabilities() -> Vec<Capability> {
-    vec![plain::capability(), guarded::capability(), edits::capability(), maps::capability()]
+    vec![plain::capability(), guarded::capability(), edits::capability(), plans::capability(), maps::capability()]
 }
 
 /// The least number of cases of a run that does not say how many.

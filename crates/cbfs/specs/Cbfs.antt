@@ -4,6 +4,7 @@ use mathlib.Core.Bool.{Bool, true, false}
 use mathlib.Core.List.{List, []}
 use Rattle.terms.specs.Terms.{bytesOf}
 use Rattle.terms.specs.declared.Region.{Region}
+use Rattle.terms.specs.declared.Refusal.{Refusal}
 use Rattle.master.specs.Master.{master}
 use Rattle.master.specs.declared.Master.{Master}
 use Rattle.master.specs.declared.Master.the-variants.{Read, Refused}
@@ -12,6 +13,10 @@ use Rattle.strict.specs.Directory.{refusal, directory}
 use Rattle.strict.specs.declared.Directory.{Directory}
 use Rattle.editor.specs.Image.{Result, addIn, replaceIn, removeIn}
 use Rattle.editor.specs.declared.Edited.the-variants.{Refused as EditRefused}
+use Rattle.load.specs.Stage.{refusedStage, stageIn}
+use Rattle.load.specs.Payload.{refusedPayload, payloadIn}
+use Rattle.load.specs.declared.StagePlan.{StagePlan}
+use Rattle.load.specs.declared.PayloadPlan.{PayloadPlan}
 use Rattle.region.specs.Region.{stepIn, findIn, contentIn, nameAt as nameIn, contentAt as contentAtIn}
 use Rattle.region.specs.declared.Step.{Step}
 use Rattle.region.specs.declared.Step.the-variants.{Refused as StepRefused}
@@ -94,3 +99,16 @@ replaced i name content = editOn i (master i) (λ g. replaceIn i g name content)
 
 abbrev pub removed : List ℕ → List ℕ → Result
 removed i name = editOn i (master i) (λ g. removeIn i g name)
+
+-- The plans: refusals 1 to 8, then 10 and 11 by the guarded lookup, then 18, and 19, 22 to 25 (stage), or record by record 19 to 26 with 21 before 19 (payload).
+
+-- The plan over the region, or the master header's refusal as a plan of either kind.
+abbrev pub planOn : {A : Type 0} → Master → (Refusal → A) → (Region → A) → A
+planOn (Read g) refusal call = call g
+planOn (Refused r) refusal call = refusal r
+
+abbrev pub stage : List ℕ → List ℕ → StagePlan
+stage i name = planOn (master i) refusedStage (λ g. stageIn i g name)
+
+abbrev pub payload : List ℕ → List ℕ → PayloadPlan
+payload i name = planOn (master i) refusedPayload (λ g. payloadIn i g name)

@@ -1,3 +1,1 @@
 pub mod Cbfs
-pub mod Demand3
-pub mod Demand2

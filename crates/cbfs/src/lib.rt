@@ -1,11 +1,14 @@
 // The public face: every call over a whole lent image, by its master header. No call asks anything of its caller.
 use editor::Edited;
+use load::PayloadPlan;
+use load::StagePlan;
 use master::Master;
 use region::Found;
 use region::Step;
 use strict::Directory;
 ghost use mathlib.Core.Path.{_≡_};
 ghost use Rattle.master.specs.Master.{master as masterOf};
+ghost use Rattle.cbfs.specs.Cbfs.{stage as stageOf, payload as payloadOf};
 ghost use Rattle.cbfs.specs.Cbfs.{stepOf, plainStep, guardedStep, findOf, plainFind, guardedFind, contentFoundBy, plainContent, guardedContent, nameAt, contentAt, strictCheck, added, replaced, removed};
 
 // The region that holds the image's components, or refusals 1 to 8.
@@ -169,5 +172,29 @@ pub fn remove(image: &mut [u8], name: &[u8]) -> Edited
     match m {
         Master::Read(g) => editor::remove(image, g, name),
         Master::Refused(r) => Edited::Refused(r),
+    }
+}
+
+// The plan of the stage that bears the name, or refusals 1 to 8, 10, 11, 18, 19 and 22 to 25.
+pub fn stage(image: &[u8], name: &[u8]) -> StagePlan
+    ensures { λ p. ⌜ p ≡ stageOf (now (image .entry)) (now (name .entry)) ⌝ }
+    ensures kept { λ _. ⌜ (now (image .exit) ≡ now (image .entry)) × (now (name .exit) ≡ now (name .entry)) ⌝ }
+{
+    let m = master::read(image);
+    match m {
+        Master::Read(g) => load::stage(image, g, name),
+        Master::Refused(r) => load::refused_stage(r),
+    }
+}
+
+// The plan of the payload that bears the name, or refusals 1 to 8, 10, 11, 18 and 19 to 26.
+pub fn payload(image: &[u8], name: &[u8]) -> PayloadPlan
+    ensures { λ p. ⌜ p ≡ payloadOf (now (image .entry)) (now (name .entry)) ⌝ }
+    ensures kept { λ _. ⌜ (now (image .exit) ≡ now (image .entry)) × (now (name .exit) ≡ now (name .entry)) ⌝ }
+{
+    let m = master::read(image);
+    match m {
+        Master::Read(g) => load::payload(image, g, name),
+        Master::Refused(r) => load::refused_payload(r),
     }
 }

@@ -1,124 +1,51 @@
 // The listing program: an image of at most 65,536 bytes from standard input, listed by the plain walk (document 01, "Bench image A").
-// What is to be written is gathered in `out`; its first `used` bytes still wait.
+// The listing is gathered on a page, whose first `used` bytes are in use, and written once.
 use libc::STDIN_FILENO;
 use libc::STDOUT_FILENO;
 use master::Master;
 use region::Step;
 use walk::Taken;
-ghost use mathlib.Core.Path.{_≡_};
-ghost use Prim.Native.Nat.{_<_, _≤_};
-ghost use Rattle.cbfs_list.specs.Digits.{digitOf, typeDigits};
 
-type Out = [u8; 4096];
+// Room for any listing: a component takes 24 bytes of the image and more, and its line 22 and its name.
+type Page = [u8; 262144];
 
-// Writes what waits.
-fn flush(out: &Out, used: usize)
-    requires { ⌜ used ≤ 4096 ⌝ }
-{
-    let all = &out[..];
-    io::write_all(STDOUT_FILENO, &all[0..used]);
-}
-
-// One byte more, after a write if `out` is full.
-fn put(out: &mut Out, used: usize, b: u8) -> usize
-    requires { ⌜ used ≤ 4096 ⌝ }
-    ensures { λ r. ⌜ r ≤ 4096 ⌝ }
-{
-    if used < 4096 {
-        out[used] = b;
-        return used + 1;
-    }
-    flush(out, used);
-    out[0] = b;
-    1
-}
-
-fn put_all(out: &mut Out, used: usize, text: &[u8]) -> usize
-    requires { ⌜ used ≤ 4096 ⌝ }
-    ensures { λ r. ⌜ r ≤ 4096 ⌝ }
-{
-    let mut at = used;
-    let mut i = 0;
-    while i < text.len() {
-        at = put(out, at, text[i]);
-        i += 1;
-    }
-    at
-}
-
-fn put_number(out: &mut Out, used: usize, n: usize) -> usize
-    requires { ⌜ used ≤ 4096 ⌝ }
-    ensures { λ r. ⌜ r ≤ 4096 ⌝ }
-{
+fn put_number(page: &mut Page, used: usize, n: usize) -> usize {
     let mut digits = [0u8; 20];
     let k = io::decimal(n as u64, &mut digits);
-    put_all(out, used, &digits[..k])
+    text::put(page, used, &digits[..k])
 }
 
-// The upper-case hexadecimal digit of d.
-fn digit(d: u32) -> u8
-    requires { ⌜ d < 16 ⌝ }
-    ensures { λ r. ⌜ r ≡ digitOf d ⌝ }
-{
-    if d < 10 { 48 + d as u8 } else { 55 + d as u8 }
-}
-
-// A component's type as eight upper-case hexadecimal digits.
-fn type_digits(kind: u32) -> [u8; 8]
-    ensures { λ r. ⌜ r ≡ typeDigits kind ⌝ }
-{
-    [
-        digit(kind / 0x10000000 % 16),
-        digit(kind / 0x1000000 % 16),
-        digit(kind / 0x100000 % 16),
-        digit(kind / 0x10000 % 16),
-        digit(kind / 0x1000 % 16),
-        digit(kind / 0x100 % 16),
-        digit(kind / 0x10 % 16),
-        digit(kind % 16),
-    ]
-}
-
-fn put_component(out: &mut Out, used: usize, image: &[u8], t: Taken) -> usize
-    requires { ⌜ used ≤ 4096 ⌝ }
-    ensures { λ r. ⌜ r ≤ 4096 ⌝ }
-{
+fn put_component(page: &mut Page, used: usize, image: &[u8], t: Taken) -> usize {
     let h = t.header;
-    let digits = type_digits(h.kind);
-    let mut at = put_number(out, used, t.place);
-    at = put(out, at, b'\t');
-    at = put_all(out, at, cbfs::name_at(image, t.place));
-    at = put(out, at, b'\t');
-    at = put_all(out, at, &digits);
-    at = put(out, at, b'\t');
-    at = put_number(out, at, h.len);
-    put(out, at, b'\n')
+    let digits = text::type_digits(h.kind);
+    let mut at = put_number(page, used, t.place);
+    at = text::put(page, at, b"\t");
+    at = text::put(page, at, cbfs::name_at(image, t.place));
+    at = text::put(page, at, b"\t");
+    at = text::put(page, at, &digits);
+    at = text::put(page, at, b"\t");
+    at = put_number(page, at, h.len);
+    text::put(page, at, b"\n")
 }
 
-// A line of a word and a number.
-fn put_line(out: &mut Out, used: usize, word: &[u8], n: usize) -> usize
-    requires { ⌜ used ≤ 4096 ⌝ }
-    ensures { λ r. ⌜ r ≤ 4096 ⌝ }
-{
-    let mut at = put_all(out, used, word);
-    at = put(out, at, b'\t');
-    at = put_number(out, at, n);
-    put(out, at, b'\n')
+// A line of a word, with its tab, and a number.
+fn put_line(page: &mut Page, used: usize, word: &[u8], n: usize) -> usize {
+    let mut at = text::put(page, used, word);
+    at = put_number(page, at, n);
+    text::put(page, at, b"\n")
 }
 
 // The whole listing from the region's start. An image has fewer components than bytes, so the bound on the count is never met;
 // and no step from where the last one left off is refused.
-fn put_listing(out: &mut Out, image: &[u8], start: usize) -> usize
-    ensures { λ r. ⌜ r ≤ 4096 ⌝ }
-{
-    let mut at = put_all(out, 0, b"place\tname\ttype\tlength\n");
+fn put_listing(page: &mut Page, image: &[u8], start: usize) -> usize {
+    let mut at = text::put(page, 0, b"place\tname\ttype\tlength\n");
     let mut from = start;
     let mut count = 0;
     while count < image.len() {
         let s = cbfs::plain_step(image, from);
         match s {
             Step::Took(t) => {
-                at = put_component(out, at, image, t);
+                at = put_component(page, at, image, t);
                 from = t.next;
                 count += 1;
             }
@@ -130,27 +57,29 @@ fn put_listing(out: &mut Out, image: &[u8], start: usize) -> usize
             }
         }
     }
-    put_line(out, at, b"end", count)
+    put_line(page, at, b"end\t", count)
 }
 
-fn put_answer(out: &mut Out, image: &[u8]) -> usize
-    ensures { λ r. ⌜ r ≤ 4096 ⌝ }
-{
+fn put_answer(page: &mut Page, image: &[u8]) -> usize {
     if 65536 < image.len() {
-        return put_line(out, 0, b"refused", 1);
+        return put_line(page, 0, b"refused\t", 1);
     }
     let m = cbfs::region(image);
     match m {
-        Master::Read(r) => put_listing(out, image, r.start),
-        Master::Refused(r) => put_line(out, 0, b"refused", r.number as usize),
+        Master::Read(r) => put_listing(page, image, r.start),
+        Master::Refused(r) => put_line(page, 0, b"refused\t", r.number as usize),
     }
+}
+
+fn write(page: &Page, used: usize) {
+    io::write_all(STDOUT_FILENO, number::part(page, 0, used));
 }
 
 fn main() {
     // One byte more than an image may have, to notice a longer one.
     let mut input = [0u8; 65537];
     let n = io::read_full(STDIN_FILENO, &mut input);
-    let mut out = [0u8; 4096];
-    let used = put_answer(&mut out, &input[..n]);
-    flush(&out, used);
+    let mut page = [0u8; 262144];
+    let used = put_answer(&mut page, &input[..n]);
+    write(&page, used);
 }

@@ -1,127 +1,88 @@
 // The fields of a case, read from standard input.
 use libc::STDIN_FILENO;
-ghost use mathlib.Core.Path.{_≡_};
-ghost use Prim.Native.Nat.{_≤_};
-ghost use lib.ListN.{length};
 
-// An operation's letter, and whether there was one.
-pub(crate) struct Letter {
-    pub(crate) op: u8,
+// As long as an image or a content, and a name, may be.
+pub(crate) type Bytes = [u8; 65536];
+
+pub(crate) type Name = [u8; 1024];
+
+// A number, and whether all its bytes were there.
+pub(crate) struct Got {
+    pub(crate) value: usize,
     pub(crate) whole: bool,
 }
 
-// How many bytes were read, and whether they are the whole field.
-struct Got {
-    len: usize,
-    whole: bool,
-}
-
-// The number of a case, and whether there was one.
-struct Eight {
-    number: usize,
-    whole: bool,
-}
-
-// What follows the operation: three lengths, the number, and whether all of it was there.
+// What follows the operation: three lengths and the number.
 pub(crate) struct Case {
     pub(crate) image: usize,
     pub(crate) name: usize,
     pub(crate) content: usize,
-    pub(crate) number: usize,
-    pub(crate) whole: bool,
+    pub(crate) number: Got,
 }
 
-pub(crate) fn operation() -> Letter {
-    let mut one = [0u8; 1];
-    let n = io::read_full(STDIN_FILENO, &mut one);
-    Letter {
-        op: number::byte(&one, 0),
-        whole: n == 1,
-    }
-}
+// In place of a length: the field is cut short, or over its limit.
+const CUT: usize = usize::MAX;
 
-// The next n bytes, at the start of `into`.
-fn bytes(into: &mut [u8], n: usize) -> Got
-    ensures { λ r. ⌜ r .len ≤ length (now (into .exit)) ⌝ }
-{
-    if n == 0 {
+// The next bytes, at the start of eight zeros, as a little-endian number.
+fn little(eight: &mut [u8], n: usize) -> Got {
+    if eight.len() < n {
         return Got {
-            len: 0,
-            whole: true,
-        };
-    }
-    if into.len() < n {
-        return Got {
-            len: 0,
+            value: 0,
             whole: false,
         };
     }
-    let got = io::read_full(STDIN_FILENO, &mut into[0..n]);
+    let got = io::read_full(STDIN_FILENO, &mut eight[0..n]);
     Got {
-        len: n,
+        value: number::le64(eight, 0) as usize,
         whole: got == n,
     }
 }
 
-// A field of bytes behind its length, at the start of `into`. One that is longer than `into` is over its limit.
-fn field(into: &mut [u8]) -> Got
-    ensures { λ r. ⌜ r .len ≤ length (now (into .exit)) ⌝ }
-{
-    let mut four = [0u8; 4];
-    if io::read_full(STDIN_FILENO, &mut four) != 4 {
-        return Got {
-            len: 0,
-            whole: false,
-        };
-    }
-    bytes(into, number::le32(&four, 0) as usize)
-}
-
-fn last_field() -> Eight {
+// A number of n bytes, at most eight.
+pub(crate) fn number(n: usize) -> Got {
     let mut eight = [0u8; 8];
-    let n = io::read_full(STDIN_FILENO, &mut eight);
-    Eight {
-        number: number::le64(&eight, 0) as usize,
-        whole: n == 8,
-    }
+    little(&mut eight, n)
 }
 
-fn no_case() -> Case
-    ensures { λ r. ⌜ (r .image ≡ 0) × (r .name ≡ 0) × (r .content ≡ 0) ⌝ }
-{
-    Case {
-        image: 0,
-        name: 0,
-        content: 0,
-        number: 0,
-        whole: false,
+// A field of bytes behind its length, at the start of `into`, which is as long as the field may be. Answers its length.
+fn field(into: &mut [u8]) -> usize {
+    let length = number(4);
+    let n = length.value;
+    if !length.whole {
+        return CUT;
     }
+    if into.len() < n {
+        return CUT;
+    }
+    if io::read_full(STDIN_FILENO, &mut into[0..n]) != n {
+        return CUT;
+    }
+    n
 }
 
-// The fields after the operation. The three slices are as long as their fields may be.
-pub(crate) fn fields(image: &mut [u8], name: &mut [u8], content: &mut [u8]) -> Case
-    ensures { λ r. ⌜ r .image ≤ length (now (image .exit)) ⌝ }
-    ensures { λ r. ⌜ r .name ≤ length (now (name .exit)) ⌝ }
-    ensures { λ r. ⌜ r .content ≤ length (now (content .exit)) ⌝ }
-{
+// The fields after the operation.
+pub(crate) fn fields(image: &mut Bytes, name: &mut Name, content: &mut Bytes) -> Case {
     let i = field(image);
-    if !i.whole {
-        return no_case();
-    }
     let k = field(name);
-    if !k.whole {
-        return no_case();
-    }
     let c = field(content);
-    if !c.whole {
-        return no_case();
-    }
-    let n = last_field();
     Case {
-        image: i.len,
-        name: k.len,
-        content: c.len,
-        number: n.number,
-        whole: n.whole,
+        image: i,
+        name: k,
+        content: c,
+        number: number(8),
     }
+}
+
+// Every field was there, within its limit.
+pub(crate) fn whole(c: Case) -> bool {
+    if c.image == CUT {
+        return false;
+    }
+    if c.name == CUT {
+        return false;
+    }
+    if c.content == CUT {
+        return false;
+    }
+    c.number.whole
 }

@@ -1,64 +1,61 @@
 // The test driver: cases on standard input, an answer to each on standard output. It holds no logic of its own.
-// An operation is one function here, and one line of `answer`.
+// An operation is one function here, and one line of `answer`. Each writes to a page, and answers how many of its bytes are then in use.
 mod input;
 mod output;
 
 use editor::Edited;
 use fmap::Area;
 use fmap::Map;
+use input::Bytes;
+use input::Case;
+use input::Name;
+use load::PayloadPlan;
+use load::Segment;
 use master::Master;
-use output::Out;
+use output::Numbers;
+use output::Page;
+use output::Word;
 use region::Found;
 use region::Step;
 use terms::Refusal;
 use walk::Taken;
-ghost use Prim.Native.Nat.{_≤_};
 
-// Standard output is gathered in `out`. How many bytes of it are in use after a case, and whether the run goes on.
-struct Turn {
-    used: usize,
-    goes_on: bool,
+// A refusal; all else in the answer is zero or empty exactly if `rest` is 0.
+fn refused(page: &mut Page, used: usize, r: Refusal, rest: usize) -> usize {
+    let ns = [r.number as usize, r.place, flag(rest), 0, 0, 0];
+    output::line(page, used, output::REFUSED, 3, ns)
 }
 
-fn refused(out: &mut Out, used: usize, r: Refusal, rest: usize) -> usize
-    requires { ⌜ used ≤ 65536 ⌝ }
-    ensures { λ r. ⌜ r ≤ 65536 ⌝ }
-{
-    let mut at = output::word(out, used, b"refused");
-    at = output::number(out, at, r.number as usize);
-    at = output::number(out, at, r.place);
-    at = output::number(out, at, rest);
-    output::line_end(out, at)
+// 0 for 0, else 1.
+fn flag(n: usize) -> usize {
+    if n == 0 { 0 } else { 1 }
 }
 
-// The line of a component, up to its content.
-fn component(out: &mut Out, used: usize, word: &[u8], image: &[u8], t: Taken) -> usize
-    requires { ⌜ used ≤ 65536 ⌝ }
-    ensures { λ r. ⌜ r ≤ 65536 ⌝ }
-{
+// A word, and a component's place and type.
+fn opening(page: &mut Page, used: usize, w: Word, t: Taken) -> usize {
     let h = t.header;
-    let mut at = output::word(out, used, word);
-    at = output::number(out, at, t.place);
-    at = output::number(out, at, h.kind as usize);
-    at = output::bytes(out, at, cbfs::name_at(image, t.place));
-    output::bytes(out, at, cbfs::content_at(image, t.place))
+    output::start(page, used, w, 2, [t.place, h.kind as usize, 0, 0, 0, 0])
+}
+
+// The same, and its name and content.
+fn component(page: &mut Page, used: usize, w: Word, image: &[u8], t: Taken) -> usize {
+    let mut at = opening(page, used, w, t);
+    at = output::bytes(page, at, cbfs::name_at(image, t.place));
+    output::bytes(page, at, cbfs::content_at(image, t.place))
 }
 
 // Operation m: the master header.
-fn master_header(out: &mut Out, used: usize, image: &[u8]) -> usize
-    requires { ⌜ used ≤ 65536 ⌝ }
-    ensures { λ r. ⌜ r ≤ 65536 ⌝ }
-{
+fn master_header(page: &mut Page, image: &[u8]) -> usize {
     let m = cbfs::region(image);
     match m {
-        Master::Read(r) => {
-            let mut at = output::word(out, used, b"region");
-            at = output::number(out, at, r.start);
-            at = output::number(out, at, r.end);
-            at = output::number(out, at, r.align);
-            output::line_end(out, at)
-        }
-        Master::Refused(r) => refused(out, used, r, 0),
+        Master::Read(r) => output::line(
+            page,
+            0,
+            output::REGION,
+            3,
+            [r.start, r.end, r.align, 0, 0, 0],
+        ),
+        Master::Refused(r) => refused(page, 0, r, 0),
     }
 }
 
@@ -71,19 +68,16 @@ fn step(guarded: bool, image: &[u8], from: usize) -> Step {
 }
 
 // The steps of a walk from a number. An image has fewer components than bytes, so the bound on the count is never met.
-fn steps(out: &mut Out, used: usize, guarded: bool, image: &[u8], start: usize) -> usize
-    requires { ⌜ used ≤ 65536 ⌝ }
-    ensures { λ r. ⌜ r ≤ 65536 ⌝ }
-{
-    let mut at = used;
+fn steps(page: &mut Page, guarded: bool, image: &[u8], start: usize) -> usize {
+    let mut at = 0;
     let mut from = start;
     let mut count = 0;
     while count < image.len() {
         let s = step(guarded, image, from);
         match s {
             Step::Took(t) => {
-                at = component(out, at, b"component", image, t);
-                at = output::line_end(out, at);
+                at = component(page, at, output::COMPONENT, image, t);
+                at = output::byte(page, at, b'\n');
                 from = t.next;
                 count += 1;
             }
@@ -91,78 +85,59 @@ fn steps(out: &mut Out, used: usize, guarded: bool, image: &[u8], start: usize) 
                 break;
             }
             Step::Refused(r) => {
-                return refused(out, at, r, 0);
+                return refused(page, at, r, 0);
             }
         }
     }
-    at = output::word(out, at, b"end");
-    at = output::number(out, at, count);
-    output::line_end(out, at)
+    output::line(page, at, output::END, 1, [count, 0, 0, 0, 0, 0])
 }
 
 // Operations p and g: the listing by the steps of a walk.
-fn listing(out: &mut Out, used: usize, guarded: bool, image: &[u8]) -> usize
-    requires { ⌜ used ≤ 65536 ⌝ }
-    ensures { λ r. ⌜ r ≤ 65536 ⌝ }
-{
+fn listing(page: &mut Page, guarded: bool, image: &[u8]) -> usize {
     let m = cbfs::region(image);
     match m {
-        Master::Read(r) => steps(out, used, guarded, image, r.start),
-        Master::Refused(r) => refused(out, used, r, 0),
+        Master::Read(r) => steps(page, guarded, image, r.start),
+        Master::Refused(r) => refused(page, 0, r, 0),
     }
 }
 
 // Operations i and j: one step.
-fn one_step(out: &mut Out, used: usize, guarded: bool, image: &[u8], from: usize) -> usize
-    requires { ⌜ used ≤ 65536 ⌝ }
-    ensures { λ r. ⌜ r ≤ 65536 ⌝ }
-{
+fn one_step(page: &mut Page, guarded: bool, image: &[u8], from: usize) -> usize {
     let s = step(guarded, image, from);
     match s {
         Step::Took(t) => {
-            let mut at = component(out, used, b"taken", image, t);
-            at = output::number(out, at, t.next);
-            output::line_end(out, at)
+            let mut at = component(page, 0, output::TAKEN, image, t);
+            at = output::number(page, at, t.next);
+            output::byte(page, at, b'\n')
         }
-        Step::NoneLeft => output::word(out, used, b"none\n"),
-        Step::Refused(r) => refused(out, used, r, 0),
+        Step::NoneLeft => output::line(page, 0, output::NONE, 0, [0; 6]),
+        Step::Refused(r) => refused(page, 0, r, 0),
     }
 }
 
 // What a lookup found, and the content that it gave.
-fn found(out: &mut Out, used: usize, f: Found, content: &[u8]) -> usize
-    requires { ⌜ used ≤ 65536 ⌝ }
-    ensures { λ r. ⌜ r ≤ 65536 ⌝ }
-{
+fn found(page: &mut Page, f: Found, content: &[u8]) -> usize {
     match f {
         Found::At(t) => {
-            let h = t.header;
-            let mut at = output::word(out, used, b"found");
-            at = output::number(out, at, t.place);
-            at = output::number(out, at, h.kind as usize);
-            at = output::bytes(out, at, content);
-            output::line_end(out, at)
+            let mut at = opening(page, 0, output::FOUND, t);
+            at = output::bytes(page, at, content);
+            output::byte(page, at, b'\n')
         }
-        Found::Refused(r) => refused(out, used, r, rest_of(content)),
+        Found::Refused(r) => refused(page, 0, r, content.len()),
     }
 }
 
 // Operations l and k: the lookup of a walk.
-fn lookup(out: &mut Out, used: usize, guarded: bool, image: &[u8], name: &[u8]) -> usize
-    requires { ⌜ used ≤ 65536 ⌝ }
-    ensures { λ r. ⌜ r ≤ 65536 ⌝ }
-{
+fn lookup(page: &mut Page, guarded: bool, image: &[u8], name: &[u8]) -> usize {
     if guarded {
         return found(
-            out,
-            used,
+            page,
             cbfs::guarded_find(image, name),
             cbfs::guarded_lookup(image, name),
         );
     }
     found(
-        out,
-        used,
+        page,
         cbfs::plain_find(image, name),
         cbfs::plain_lookup(image, name),
     )
@@ -180,67 +155,26 @@ fn unused(numbers: &[usize], from: usize) -> usize {
     0
 }
 
-// The first n places.
-fn put_places(out: &mut Out, used: usize, places: &[usize], n: usize) -> usize
-    requires { ⌜ used ≤ 65536 ⌝ }
-    ensures { λ r. ⌜ r ≤ 65536 ⌝ }
-{
-    let mut at = used;
-    let mut i = 0;
-    while i < places.len() {
-        if n <= i {
-            break;
-        }
-        at = output::number(out, at, places[i]);
-        i += 1;
-    }
-    at
+// The line of a directory: the first n places, and whether the others are zero.
+fn accepted(page: &mut Page, places: &[usize], n: usize) -> usize {
+    let ns = [n, unused(places, n), 0, 0, 0, 0];
+    let mut at = output::start(page, 0, output::ACCEPTED, 2, ns);
+    at = output::numbers(page, at, places, n);
+    output::byte(page, at, b'\n')
 }
 
 // Operation c: the strict check.
-fn strict_check(out: &mut Out, used: usize, image: &[u8]) -> usize
-    requires { ⌜ used ≤ 65536 ⌝ }
-    ensures { λ r. ⌜ r ≤ 65536 ⌝ }
-{
+fn strict_check(page: &mut Page, image: &[u8]) -> usize {
     let d = cbfs::strict_check(image);
     let places = d.places;
-    if d.number != 0 {
-        let r = Refusal {
-            number: d.number,
-            place: d.place,
-        };
-        if d.count != 0 {
-            return refused(out, used, r, 1);
-        }
-        return refused(out, used, r, unused(&places, 0));
+    if d.number == 0 {
+        return accepted(page, &places, d.count);
     }
-    let mut at = output::word(out, used, b"accepted");
-    at = output::number(out, at, d.count);
-    at = output::number(out, at, unused(&places, d.count));
-    at = put_places(out, at, &places, d.count);
-    output::line_end(out, at)
-}
-
-// The last field of a refusal: 0 where the content is empty, else 1.
-fn rest_of(content: &[u8]) -> usize {
-    if content.len() == 0 { 0 } else { 1 }
-}
-
-// 0 where every field of the area is 0, else 1.
-fn area_used(a: Area) -> usize {
-    if a.offset != 0 {
-        return 1;
-    }
-    if a.size != 0 {
-        return 1;
-    }
-    if a.flags != 0 {
-        return 1;
-    }
-    if a.name != 0 {
-        return 1;
-    }
-    0
+    let r = Refusal {
+        number: d.number,
+        place: d.place,
+    };
+    refused(page, 0, r, d.count | unused(&places, 0))
 }
 
 // 0 where every area from `from` on is zero throughout, else 1.
@@ -248,7 +182,7 @@ fn unused_areas(areas: [Area; 256], from: usize) -> usize {
     let mut i = from;
     while i < 256 {
         let a = areas[i];
-        if area_used(a) != 0 {
+        if a.offset | a.size | a.flags as usize | a.name != 0 {
             return 1;
         }
         i += 1;
@@ -257,10 +191,7 @@ fn unused_areas(areas: [Area; 256], from: usize) -> usize {
 }
 
 // The lines of the first n areas.
-fn put_areas(out: &mut Out, used: usize, areas: [Area; 256], n: usize) -> usize
-    requires { ⌜ used ≤ 65536 ⌝ }
-    ensures { λ r. ⌜ r ≤ 65536 ⌝ }
-{
+fn put_areas(page: &mut Page, used: usize, areas: [Area; 256], n: usize) -> usize {
     let mut at = used;
     let mut i = 0;
     while i < 256 {
@@ -268,103 +199,177 @@ fn put_areas(out: &mut Out, used: usize, areas: [Area; 256], n: usize) -> usize
             break;
         }
         let a = areas[i];
-        at = output::word(out, at, b"area");
-        at = output::number(out, at, a.offset);
-        at = output::number(out, at, a.size);
-        at = output::number(out, at, a.flags as usize);
-        at = output::number(out, at, a.name);
-        at = output::line_end(out, at);
+        let ns = [a.offset, a.size, a.flags as usize, a.name, 0, 0];
+        at = output::line(page, at, output::AREA, 4, ns);
         i += 1;
     }
     at
 }
 
-// The last field of a refused map: 0 where all else in it is zero, else 1.
-fn rest_of_map(m: Map) -> usize {
-    if m.minor != 0 {
-        return 1;
-    }
-    if m.base != 0 {
-        return 1;
-    }
-    if m.count != 0 {
-        return 1;
-    }
+// The lines of a map.
+fn map_lines(page: &mut Page, m: Map) -> usize {
     let areas = m.areas;
-    unused_areas(areas, 0)
+    let rest = unused_areas(areas, m.count);
+    let ns = [m.minor as usize, m.base as usize, m.count, rest, 0, 0];
+    let at = output::line(page, 0, output::MAP, 4, ns);
+    put_areas(page, at, areas, m.count)
 }
 
 // Operation f: the flash map.
-fn flash_map(out: &mut Out, used: usize, image: &[u8]) -> usize
-    requires { ⌜ used ≤ 65536 ⌝ }
-    ensures { λ r. ⌜ r ≤ 65536 ⌝ }
-{
+fn flash_map(page: &mut Page, image: &[u8]) -> usize {
     let m = fmap::read(image);
-    if m.number != 0 {
-        let r = Refusal {
-            number: m.number,
-            place: m.place,
-        };
-        return refused(out, used, r, rest_of_map(m));
+    if m.number == 0 {
+        return map_lines(page, m);
     }
     let areas = m.areas;
-    let mut at = output::word(out, used, b"map");
-    at = output::number(out, at, m.minor as usize);
-    at = output::number(out, at, m.base as usize);
-    at = output::number(out, at, m.count);
-    at = output::number(out, at, unused_areas(areas, m.count));
-    at = output::line_end(out, at);
-    put_areas(out, at, areas, m.count)
+    let r = Refusal {
+        number: m.number,
+        place: m.place,
+    };
+    let rest = m.minor as usize | m.base as usize | m.count | unused_areas(areas, 0);
+    refused(page, 0, r, rest)
 }
 
-// What an edit answered, and the whole image afterwards.
-fn edited(out: &mut Out, used: usize, e: Edited, image: &[u8]) -> usize
-    requires { ⌜ used ≤ 65536 ⌝ }
-    ensures { λ r. ⌜ r ≤ 65536 ⌝ }
-{
-    let mut at = reply(out, used, e);
-    at = output::word(out, at, b"image");
-    at = output::bytes(out, at, image);
-    output::line_end(out, at)
-}
-
-fn reply(out: &mut Out, used: usize, e: Edited) -> usize
-    requires { ⌜ used ≤ 65536 ⌝ }
-    ensures { λ r. ⌜ r ≤ 65536 ⌝ }
-{
-    match e {
-        Edited::Done(place) => {
-            let mut at = output::word(out, used, b"done");
-            at = output::number(out, at, place);
-            output::line_end(out, at)
-        }
-        Edited::Refused(r) => refused(out, used, r, 0),
+// Operation s: the stage plan of a name.
+fn stage(page: &mut Page, image: &[u8], name: &[u8]) -> usize {
+    let p = cbfs::stage(image, name);
+    let ns = [
+        p.compression as usize,
+        p.entry as usize,
+        p.load as usize,
+        p.source,
+        p.len,
+        p.memlen,
+    ];
+    if p.number == 0 {
+        return output::line(page, 0, output::STAGE, 6, ns);
     }
+    let r = Refusal {
+        number: p.number,
+        place: p.place,
+    };
+    refused(page, 0, r, unused(&ns, 0))
+}
+
+// A segment's numbers, as its line has them.
+fn numbers_of(x: Segment) -> Numbers {
+    [
+        x.kind as usize,
+        x.compression as usize,
+        x.source,
+        x.load as usize,
+        x.len,
+        x.memlen,
+    ]
+}
+
+// 0 where every segment from `from` on is zero throughout, else 1.
+fn unused_segments(segments: [Segment; 16], from: usize) -> usize {
+    let mut i = from;
+    while i < 16 {
+        let x = segments[i];
+        let ns = numbers_of(x);
+        if unused(&ns, 0) != 0 {
+            return 1;
+        }
+        i += 1;
+    }
+    0
+}
+
+// The lines of the first n segments.
+fn put_segments(page: &mut Page, used: usize, segments: [Segment; 16], n: usize) -> usize {
+    let mut at = used;
+    let mut i = 0;
+    while i < 16 {
+        if n <= i {
+            break;
+        }
+        let x = segments[i];
+        at = output::line(page, at, output::SEGMENT, 6, numbers_of(x));
+        i += 1;
+    }
+    at
+}
+
+// The lines of a payload plan.
+fn plan_lines(page: &mut Page, p: PayloadPlan) -> usize {
+    let segments = p.segments;
+    let ns = [p.count, unused_segments(segments, p.count), 0, 0, 0, 0];
+    let at = output::line(page, 0, output::PAYLOAD, 2, ns);
+    put_segments(page, at, segments, p.count)
+}
+
+// Operation y: the payload plan of a name.
+fn payload(page: &mut Page, image: &[u8], name: &[u8]) -> usize {
+    let p = cbfs::payload(image, name);
+    if p.number == 0 {
+        return plan_lines(page, p);
+    }
+    let segments = p.segments;
+    let r = Refusal {
+        number: p.number,
+        place: p.place,
+    };
+    refused(page, 0, r, p.count | unused_segments(segments, 0))
+}
+
+fn edit(op: u8, image: &mut [u8], name: &[u8], content: &[u8], n: usize) -> Edited {
+    if op == b'a' {
+        return cbfs::add(image, name, (n % 4294967296) as u32, content);
+    }
+    if op == b'r' {
+        return cbfs::replace(image, name, content);
+    }
+    cbfs::remove(image, name)
+}
+
+// What an edit answered.
+fn reply(page: &mut Page, e: Edited) -> usize {
+    match e {
+        Edited::Done(place) => output::line(page, 0, output::DONE, 1, [place, 0, 0, 0, 0, 0]),
+        Edited::Refused(r) => refused(page, 0, r, 0),
+    }
+}
+
+// The same, and the whole image afterwards.
+fn edited(page: &mut Page, e: Edited, image: &[u8]) -> usize {
+    let mut at = reply(page, e);
+    at = output::start(page, at, output::IMAGE, 0, [0; 6]);
+    at = output::bytes(page, at, image);
+    output::byte(page, at, b'\n')
 }
 
 // Operations a, r and d: add, replace, remove.
 fn edit_case(
-    out: &mut Out,
-    used: usize,
+    page: &mut Page,
     op: u8,
+    c: Case,
     image: &mut [u8],
     name: &[u8],
     content: &[u8],
-    n: usize,
-) -> usize
-    requires { ⌜ used ≤ 65536 ⌝ }
-    ensures { λ r. ⌜ r ≤ 65536 ⌝ }
-{
-    if op == b'a' {
-        let e = cbfs::add(image, name, (n % 4294967296) as u32, content);
-        return edited(out, used, e, image);
+) -> usize {
+    let i = c.image;
+    if image.len() < i {
+        return 0;
     }
-    if op == b'r' {
-        let e = cbfs::replace(image, name, content);
-        return edited(out, used, e, image);
+    let e = edit(op, &mut image[0..i], name, content, c.number.value);
+    edited(page, e, number::part(image, 0, i))
+}
+
+// The answer to an operation that only reads; 0 for an unknown one, since no answer is empty.
+fn answer(page: &mut Page, op: u8, image: &[u8], name: &[u8], n: usize) -> usize {
+    match op {
+        b'm' => master_header(page, image),
+        b'p' | b'g' => listing(page, op == b'g', image),
+        b'i' | b'j' => one_step(page, op == b'j', image, n),
+        b'l' | b'k' => lookup(page, op == b'k', image, name),
+        b'c' => strict_check(page, image),
+        b's' => stage(page, image, name),
+        b'y' => payload(page, image, name),
+        b'f' => flash_map(page, image),
+        _ => 0,
     }
-    let e = cbfs::remove(image, name);
-    edited(out, used, e, image)
 }
 
 fn is_edit(op: u8) -> bool {
@@ -377,106 +382,60 @@ fn is_edit(op: u8) -> bool {
     op == b'd'
 }
 
-fn bad_case(out: &mut Out, used: usize) -> Turn
-    requires { ⌜ used ≤ 65536 ⌝ }
-    ensures { λ r. ⌜ r .used ≤ 65536 ⌝ }
-{
-    Turn {
-        used: output::word(out, used, b"bad case\n"),
-        goes_on: false,
+// The answer to a case; 0 for a bad one.
+fn answered(
+    page: &mut Page,
+    op: u8,
+    c: Case,
+    image: &mut Bytes,
+    name: &Name,
+    content: &Bytes,
+) -> usize {
+    if !input::whole(c) {
+        return 0;
     }
+    let asked = number::part(name, 0, c.name);
+    if is_edit(op) {
+        return edit_case(
+            page,
+            op,
+            c,
+            image,
+            asked,
+            number::part(content, 0, c.content),
+        );
+    }
+    answer(
+        page,
+        op,
+        number::part(image, 0, c.image),
+        asked,
+        c.number.value,
+    )
 }
 
-fn answered(used: usize) -> Turn
-    requires { ⌜ used ≤ 65536 ⌝ }
-    ensures { λ r. ⌜ r .used ≤ 65536 ⌝ }
-{
-    Turn {
-        used,
-        goes_on: true,
-    }
-}
-
-fn answer(out: &mut Out, used: usize, op: u8, image: &[u8], name: &[u8], n: usize) -> Turn
-    requires { ⌜ used ≤ 65536 ⌝ }
-    ensures { λ r. ⌜ r .used ≤ 65536 ⌝ }
-{
-    match op {
-        b'm' => answered(master_header(out, used, image)),
-        b'p' => answered(listing(out, used, false, image)),
-        b'i' => answered(one_step(out, used, false, image, n)),
-        b'l' => answered(lookup(out, used, false, image, name)),
-        b'g' => answered(listing(out, used, true, image)),
-        b'j' => answered(one_step(out, used, true, image, n)),
-        b'k' => answered(lookup(out, used, true, image, name)),
-        b'c' => answered(strict_check(out, used, image)),
-        b'f' => answered(flash_map(out, used, image)),
-        _ => bad_case(out, used),
-    }
-}
-
-// Reads a case and answers it. An end of the input in place of an operation just ends the run.
-fn one_case(
-    out: &mut Out,
-    used: usize,
-    image: &mut [u8],
-    name: &mut [u8],
-    content: &mut [u8],
-) -> Turn
-    requires { ⌜ used ≤ 65536 ⌝ }
-    ensures { λ r. ⌜ r .used ≤ 65536 ⌝ }
-{
-    let op = input::operation();
-    if !op.whole {
-        return Turn {
-            used,
-            goes_on: false,
-        };
+// Reads a case and answers it, and says whether the run goes on. An end of the input in place of an operation just ends it.
+fn one_case(page: &mut Page, image: &mut Bytes, name: &mut Name, content: &mut Bytes) -> bool {
+    let letter = input::number(1);
+    if !letter.whole {
+        return false;
     }
     let c = input::fields(image, name, content);
-    if !c.whole {
-        return bad_case(out, used);
-    }
-    let i = c.image;
-    let k = c.name;
-    let j = c.content;
-    let letter = op.op;
-    if is_edit(letter) {
-        return answered(edit_case(
-            out,
-            used,
-            letter,
-            &mut image[0..i],
-            &name[0..k],
-            &content[0..j],
-            c.number,
-        ));
-    }
-    answer(out, used, letter, &image[0..i], &name[0..k], c.number)
+    let used = answered(page, (letter.value % 256) as u8, c, image, name, content);
+    output::write(page, used)
 }
 
 // Case after case. Nothing says that the input ends, so the turns count down from a number that no run uses up.
-fn run(out: &mut Out, image: &mut [u8], name: &mut [u8], content: &mut [u8]) -> usize
-    ensures { λ r. ⌜ r ≤ 65536 ⌝ }
-{
-    let mut used = 0;
-    let mut turns = u64::MAX;
-    while turns > 0 {
-        let t = one_case(out, used, image, name, content);
-        used = t.used;
-        if !t.goes_on {
-            break;
-        }
-        turns -= 1;
-    }
-    used
-}
-
 fn main() {
-    let mut out = [0u8; 65536];
+    let mut page = [0u8; 262144];
     let mut image = [0u8; 65536];
     let mut name = [0u8; 1024];
     let mut content = [0u8; 65536];
-    let used = run(&mut out, &mut image, &mut name, &mut content);
-    output::flush(&out, used);
+    let mut turns = u64::MAX;
+    while turns > 0 {
+        if !one_case(&mut page, &mut image, &mut name, &mut content) {
+            return;
+        }
+        turns -= 1;
+    }
 }

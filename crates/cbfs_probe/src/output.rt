@@ -1,104 +1,118 @@
-// The lines of an answer. They are gathered in `out`, whose first `used` bytes still wait to be written.
-// Each function answers how many bytes of `out` are in use after it.
+// The lines of an answer, gathered on a page whose first `used` bytes are in use. Each function answers how many are in use after it.
 use libc::STDOUT_FILENO;
-ghost use mathlib.Core.Path.{_≡_};
-ghost use Prim.Native.Nat.{_<_, _≤_};
-ghost use Rattle.io.specs.Digits.{glyph};
 
-pub(crate) type Out = [u8; 65536];
+// Room for any answer. Each byte of a 65,536-byte image becomes at most two digits, and a component, which takes 40 bytes of it or more,
+// adds at most 31 to its line; 256 places or areas take less.
+pub(crate) type Page = [u8; 262144];
 
-// Writes what waits.
-pub(crate) fn flush(out: &Out, used: usize)
-    requires { ⌜ used ≤ 65536 ⌝ }
-{
-    let all = &out[..];
-    io::write_all(STDOUT_FILENO, &all[0..used]);
-}
+// The word that a line begins with, and blanks.
+pub(crate) type Word = [u8; 9];
 
-// One byte more, after a write if `out` is full.
-fn put(out: &mut Out, used: usize, b: u8) -> usize
-    requires { ⌜ used ≤ 65536 ⌝ }
-    ensures { λ r. ⌜ r ≤ 65536 ⌝ }
-{
-    if used < 65536 {
-        out[used] = b;
-        return used + 1;
+// The numbers of a line: the first so many of these.
+pub(crate) type Numbers = [usize; 6];
+
+pub(crate) const REFUSED: Word = *b"refused  ";
+
+pub(crate) const REGION: Word = *b"region   ";
+
+pub(crate) const COMPONENT: Word = *b"component";
+
+pub(crate) const END: Word = *b"end      ";
+
+pub(crate) const TAKEN: Word = *b"taken    ";
+
+pub(crate) const NONE: Word = *b"none     ";
+
+pub(crate) const FOUND: Word = *b"found    ";
+
+pub(crate) const ACCEPTED: Word = *b"accepted ";
+
+pub(crate) const MAP: Word = *b"map      ";
+
+pub(crate) const AREA: Word = *b"area     ";
+
+pub(crate) const STAGE: Word = *b"stage    ";
+
+pub(crate) const PAYLOAD: Word = *b"payload  ";
+
+pub(crate) const SEGMENT: Word = *b"segment  ";
+
+pub(crate) const DONE: Word = *b"done     ";
+
+pub(crate) const IMAGE: Word = *b"image    ";
+
+// Writes an answer, or `bad case` for none, and says whether there was one.
+pub(crate) fn write(page: &Page, used: usize) -> bool {
+    if used == 0 {
+        return bad_case();
     }
-    flush(out, used);
-    out[0] = b;
-    1
+    io::write_all(STDOUT_FILENO, number::part(page, 0, used));
+    true
 }
 
-// The first word of a line, or a text as it is.
-pub(crate) fn word(out: &mut Out, used: usize, text: &[u8]) -> usize
-    requires { ⌜ used ≤ 65536 ⌝ }
-    ensures { λ r. ⌜ r ≤ 65536 ⌝ }
-{
-    let mut at = used;
+fn bad_case() -> bool {
+    io::write_all(STDOUT_FILENO, b"bad case\n");
+    false
+}
+
+// One byte, as a tab or a line end.
+pub(crate) fn byte(page: &mut Page, used: usize, b: u8) -> usize {
+    text::put(page, used, &[b])
+}
+
+// How many letters stand before the blanks.
+fn letters(w: Word) -> usize {
     let mut i = 0;
-    while i < text.len() {
-        at = put(out, at, text[i]);
+    while i < 9 {
+        if w[i] == b' ' {
+            return i;
+        }
         i += 1;
     }
-    at
+    9
+}
+
+fn word(page: &mut Page, used: usize, w: Word) -> usize {
+    let n = letters(w);
+    text::put(page, used, number::part(&w, 0, n))
 }
 
 // A tab and a decimal number.
-pub(crate) fn number(out: &mut Out, used: usize, n: usize) -> usize
-    requires { ⌜ used ≤ 65536 ⌝ }
-    ensures { λ r. ⌜ r ≤ 65536 ⌝ }
-{
+pub(crate) fn number(page: &mut Page, used: usize, n: usize) -> usize {
+    let at = byte(page, used, b'\t');
     let mut digits = [0u8; 20];
     let k = io::decimal(n as u64, &mut digits);
-    let at = put(out, used, b'\t');
-    word(out, at, &digits[..k])
+    text::put(page, at, &digits[..k])
 }
 
-// The lower-case hexadecimal digit of d.
-fn digit(d: u8) -> u8
-    requires { ⌜ d < 16 ⌝ }
-    ensures { λ r. ⌜ r ≡ glyph d ⌝ }
-{
-    if d < 10 { 48 + d } else { 87 + d }
-}
-
-// The two digits of b.
-fn pair(out: &mut Out, used: usize, b: u8) -> usize
-    requires { ⌜ used ≤ 65536 ⌝ }
-    ensures { λ r. ⌜ r ≤ 65536 ⌝ }
-{
-    let at = put(out, used, digit(b / 16));
-    put(out, at, digit(b % 16))
-}
-
-fn hex(out: &mut Out, used: usize, s: &[u8]) -> usize
-    requires { ⌜ used ≤ 65536 ⌝ }
-    ensures { λ r. ⌜ r ≤ 65536 ⌝ }
-{
+// A tab and a number, for each of the first n.
+pub(crate) fn numbers(page: &mut Page, used: usize, ns: &[usize], n: usize) -> usize {
     let mut at = used;
     let mut i = 0;
-    while i < s.len() {
-        at = pair(out, at, s[i]);
+    while i < ns.len() {
+        if n <= i {
+            break;
+        }
+        at = number(page, at, ns[i]);
         i += 1;
     }
     at
 }
 
-// A tab and bytes in hexadecimal, or `-` for none.
-pub(crate) fn bytes(out: &mut Out, used: usize, s: &[u8]) -> usize
-    requires { ⌜ used ≤ 65536 ⌝ }
-    ensures { λ r. ⌜ r ≤ 65536 ⌝ }
-{
-    let at = put(out, used, b'\t');
-    if s.len() == 0 {
-        return put(out, at, b'-');
-    }
-    hex(out, at, s)
+// A tab and bytes in hexadecimal.
+pub(crate) fn bytes(page: &mut Page, used: usize, s: &[u8]) -> usize {
+    let at = byte(page, used, b'\t');
+    text::hex(page, at, s)
 }
 
-pub(crate) fn line_end(out: &mut Out, used: usize) -> usize
-    requires { ⌜ used ≤ 65536 ⌝ }
-    ensures { λ r. ⌜ r ≤ 65536 ⌝ }
-{
-    put(out, used, b'\n')
+// The start of a line: a word and n numbers.
+pub(crate) fn start(page: &mut Page, used: usize, w: Word, n: usize, ns: Numbers) -> usize {
+    let at = word(page, used, w);
+    numbers(page, at, &ns, n)
+}
+
+// A whole line.
+pub(crate) fn line(page: &mut Page, used: usize, w: Word, n: usize, ns: Numbers) -> usize {
+    let at = start(page, used, w, n, ns);
+    byte(page, at, b'\n')
 }

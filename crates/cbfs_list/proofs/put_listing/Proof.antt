@@ -1,21 +1,21 @@
--- `put_listing` is safe and ends. Its invariant: what waits fits the buffer; its measure: the bytes of the image that are not counted yet.
-use Prim.Native.Nat.{_≤_, _-_}
+-- `put_listing` ends: its measure is the bytes of the image that are not counted yet.
+use Prim.Native.Nat.{_-_}
 use lib.ListN.{length}
 use borrow.Author.Needs.{needs}
 use Rattle.cbfs_list.proofs.put_listing.Statement.{statement}
 use Rattle.cbfs_list.proofs.put_listing.Tie as tie
 
 abbrev Inv-loop : tie.InvT-loop
-Inv-loop out₀ image start at₀ from₀ count₀ t10 out at from count = at ≤ 4096
+Inv-loop page₀ image start at₀ from₀ count₀ t10 page at from count = Unit {0}
 
 abbrev μ-loop : tie.MeasureT-loop
-μ-loop out₀ image start at₀ from₀ count₀ t10 out at from count = length image - count
+μ-loop page₀ image start at₀ from₀ count₀ t10 page at from count = length image - count
 
-slice-aggregate-put-all : tie.Need-slice-aggregate-put-all Inv-loop μ-loop
-slice-aggregate-put-all c = search needs
+slice-aggregate-put : tie.Need-slice-aggregate-put Inv-loop μ-loop
+slice-aggregate-put c = search needs
 
-put-all-requires : tie.Need-put-all-requires Inv-loop μ-loop
-put-all-requires c κs = search needs
+put-requires : tie.Need-put-requires Inv-loop μ-loop
+put-requires c κs = search needs
 
 loop-holds : tie.Need-loop-holds Inv-loop μ-loop
 loop-holds c = search needs
@@ -59,8 +59,8 @@ put-listing-spec =
     (tie.spec
     Inv-loop
     μ-loop
-    slice-aggregate-put-all
-    put-all-requires
+    slice-aggregate-put
+    put-requires
     loop-holds
     plain-step-requires
     enum-known-s

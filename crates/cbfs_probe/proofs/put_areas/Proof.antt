@@ -1,13 +1,13 @@
-use Prim.Native.Nat.{_-_, _≤_}
+use Prim.Native.Nat.{_-_}
 use borrow.Author.Needs.{needs}
 use Rattle.cbfs_probe.proofs.put_areas.Statement.{statement}
 use Rattle.cbfs_probe.proofs.put_areas.Tie as tie
 
 abbrev Inv-loop : tie.InvT-loop
-Inv-loop out₀ used n areas at₀ i₀ t9 out at i = at ≤ 65536
+Inv-loop page₀ used n areas at₀ i₀ page at i = Unit {0}
 
 abbrev μ-loop : tie.MeasureT-loop
-μ-loop out₀ used n areas at₀ i₀ t9 out at i = 256 - i
+μ-loop page₀ used n areas at₀ i₀ page at i = 256 - i
 
 loop-holds : tie.Need-loop-holds Inv-loop μ-loop
 loop-holds c = search needs
@@ -18,29 +18,11 @@ mul-a c = search needs
 array-copy-out-a : tie.Need-array-copy-out-a Inv-loop μ-loop
 array-copy-out-a c = search needs
 
-slice-aggregate-word : tie.Need-slice-aggregate-word Inv-loop μ-loop
-slice-aggregate-word c = search needs
+cast-t11 : tie.Need-cast-t11 Inv-loop μ-loop
+cast-t11 c = search needs
 
-word-requires : tie.Need-word-requires Inv-loop μ-loop
-word-requires c κs = search needs
-
-number-requires : tie.Need-number-requires Inv-loop μ-loop
-number-requires c κs = search needs
-
-number-requires-2 : tie.Need-number-requires-2 Inv-loop μ-loop
-number-requires-2 c κs = search needs
-
-cast-number : tie.Need-cast-number Inv-loop μ-loop
-cast-number c = search needs
-
-number-requires-3 : tie.Need-number-requires-3 Inv-loop μ-loop
-number-requires-3 c κs = search needs
-
-number-requires-4 : tie.Need-number-requires-4 Inv-loop μ-loop
-number-requires-4 c κs = search needs
-
-line-end-requires : tie.Need-line-end-requires Inv-loop μ-loop
-line-end-requires c κs = search needs
+line-requires : tie.Need-line-requires Inv-loop μ-loop
+line-requires c κs = search needs
 
 add-i : tie.Need-add-i Inv-loop μ-loop
 add-i c = search needs
@@ -66,14 +48,8 @@ put-areas-spec =
     loop-holds
     mul-a
     array-copy-out-a
-    slice-aggregate-word
-    word-requires
-    number-requires
-    number-requires-2
-    cast-number
-    number-requires-3
-    number-requires-4
-    line-end-requires
+    cast-t11
+    line-requires
     add-i
     loop-less
     loop-again

@@ -1,15 +1,14 @@
--- `steps` is safe and ends. Its invariant: what waits fits the buffer; its measure: the bytes of the image that are not counted yet.
-use Prim.Native.Nat.{_≤_, _-_}
+use Prim.Native.Nat.{_-_}
 use lib.ListN.{length}
 use borrow.Author.Needs.{needs}
 use Rattle.cbfs_probe.proofs.steps.Statement.{statement}
 use Rattle.cbfs_probe.proofs.steps.Tie as tie
 
 abbrev Inv-loop : tie.InvT-loop
-Inv-loop out₀ used guarded image start at₀ from₀ count₀ t11 t12 out at from count = at ≤ 65536
+Inv-loop page₀ guarded image start at₀ from₀ count₀ page at from count = Unit {0}
 
 abbrev μ-loop : tie.MeasureT-loop
-μ-loop out₀ used guarded image start at₀ from₀ count₀ t11 t12 out at from count = length image - count
+μ-loop page₀ guarded image start at₀ from₀ count₀ page at from count = length image - count
 
 loop-holds : tie.Need-loop-holds Inv-loop μ-loop
 loop-holds c = search needs
@@ -20,14 +19,11 @@ step-requires c κs = search needs
 enum-known-s : tie.Need-enum-known-s Inv-loop μ-loop
 enum-known-s c = search needs
 
-slice-aggregate-component : tie.Need-slice-aggregate-component Inv-loop μ-loop
-slice-aggregate-component c = search needs
-
 component-requires : tie.Need-component-requires Inv-loop μ-loop
 component-requires c κs = search needs
 
-line-end-requires : tie.Need-line-end-requires Inv-loop μ-loop
-line-end-requires c κs = search needs
+byte-requires : tie.Need-byte-requires Inv-loop μ-loop
+byte-requires c κs = search needs
 
 add-count : tie.Need-add-count Inv-loop μ-loop
 add-count c = search needs
@@ -50,17 +46,8 @@ refused-requires c κs = search needs
 returns : tie.Need-returns Inv-loop μ-loop
 returns c = search needs
 
-slice-aggregate-word : tie.Need-slice-aggregate-word Inv-loop μ-loop
-slice-aggregate-word c = search needs
-
-word-requires : tie.Need-word-requires Inv-loop μ-loop
-word-requires c κs = search needs
-
-number-requires : tie.Need-number-requires Inv-loop μ-loop
-number-requires c κs = search needs
-
-line-end-requires-2 : tie.Need-line-end-requires-2 Inv-loop μ-loop
-line-end-requires-2 c κs = search needs
+line-requires : tie.Need-line-requires Inv-loop μ-loop
+line-requires c κs = search needs
 
 returns-2 : tie.Need-returns-2 Inv-loop μ-loop
 returns-2 c = search needs
@@ -74,9 +61,8 @@ steps-spec =
     loop-holds
     step-requires
     enum-known-s
-    slice-aggregate-component
     component-requires
-    line-end-requires
+    byte-requires
     add-count
     loop-less
     loop-again
@@ -84,8 +70,5 @@ steps-spec =
     enum-known-s-2
     refused-requires
     returns
-    slice-aggregate-word
-    word-requires
-    number-requires
-    line-end-requires-2
+    line-requires
     returns-2)

@@ -18,8 +18,8 @@ mul-a c = search needs
 array-copy-out-a : tie.Need-array-copy-out-a Inv-loop μ-loop
 array-copy-out-a c = search needs
 
-area-used-requires : tie.Need-area-used-requires Inv-loop μ-loop
-area-used-requires c κs = search needs
+cast-if1 : tie.Need-cast-if1 Inv-loop μ-loop
+cast-if1 c = search needs
 
 returns : tie.Need-returns Inv-loop μ-loop
 returns c = search needs
@@ -45,7 +45,7 @@ unused-areas-spec =
     loop-holds
     mul-a
     array-copy-out-a
-    area-used-requires
+    cast-if1
     returns
     add-i
     loop-less

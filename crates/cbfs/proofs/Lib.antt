@@ -1,6 +1,0 @@
-pub mod Theorems
-pub mod Images
-pub mod Spoiling
-pub mod Accepting
-pub mod Editing
-pub mod Edits

@@ -1,0 +1,70 @@
+-- What the strict check's answer says of a whole image.
+use Prim.Native.Nat.{ℕ, _+_}
+use native.Mathlib.Omega.{arith}
+use mathlib.Core.Path.{_≡_, refl, sym, ap, _∙_}
+use mathlib.Core.List.{List, map}
+use mathlib.Core.Logic.{_↔_, _⊎_, inl, inr}
+use mathlib.Core.Bool.{Bool, true, false, cond}
+use lib.ListN.{length, length-map}
+use lib.Dec.{eqb}
+use borrow.Author.Tests.{eqb-false}
+use Rattle.walk.specs.Walk.{plainListing, guardedListing}
+use Rattle.terms.specs.Terms.{bytesOf, refusedBy}
+use Rattle.terms.specs.declared.Region.{Region}
+use Rattle.terms.specs.declared.Refusal.{Refusal}
+use Rattle.master.specs.Master.{refusal, regionOf, master}
+use Rattle.master.specs.declared.Master.{Master}
+use Rattle.master.specs.declared.Master.the-variants.{Read, Refused}
+use Rattle.strict.specs.Strict.{limit, Accepted, Verdict, refused, accepted, placesOf, verdict, padded}
+use Rattle.strict.specs.Directory.{directory}
+use Rattle.strict.specs.declared.Directory.{Directory}
+use Rattle.strict.proofs.Verdicts.{accepted-exactly, no-other}
+use Rattle.strict.proofs.Accepting.{walks-agree}
+use Rattle.cbfs.specs.Cbfs.{strictCheck}
+use Rattle.claims.specs.Demand3.{Spoiled, Demand3}
+use Rattle.claims.proofs.Spoiling.{demand-3}
+
+-- A refusal of the master header has a number that is not 0.
+pub refused-number : (i : List ℕ) (r : Refusal) → master i ≡ Refused r → r .number ≡ 0 → ⊥
+unfolding master
+refused-number i r e z = go (eqb (refusal i) 0) refl e
+  where
+    go : (b : Bool) → eqb (refusal i) 0 ≡ b → cond b (Read (regionOf i)) (Refused (refusedBy (refusal i))) ≡ Refused r → ⊥
+    go true q f = let y : _≡_ {A = ℕ} 0 1 = cc in omega arith
+    go false q f = let s : refusedBy (refusal i) ≡ r = cc in eqb-false _ _ q (ap (λ (x : Refusal). x .number) s ∙ z)
+
+-- The image's region, and that the strict check accepts it.
+pub record AcceptedImage (i : List ℕ) (g : Region) : Type 0 where
+  pub read : master i ≡ Read g
+  pub acc : Accepted (bytesOf i g) (g .align)
+
+-- The strict check gives number 0 exactly if the image has a region and every place with the magic in it is one the plain walk takes, there
+-- are at most 256 components, and no two names are equal.
+pub strict-check-accepts : (i : List ℕ) → (strictCheck i .number ≡ 0) ↔ ((g : Region) × AcceptedImage i g)
+strict-check-accepts i = (λ z. go (master i) refl z, λ h. rw (h .1 .read, accepted-exactly (bytesOf i (h .0)) (h .0 .align) _ .1 (h .1 .acc, refl)))
+  where
+    by : (g : Region) → master i ≡ Read g → (v : Verdict) → verdict limit (bytesOf i g) (g .align) ≡ v → directory (g .start) v .number ≡ 0 → (h : Region) × AcceptedImage i h
+    by g m (accepted ps) q z = (g, record { read = m; acc = accepted-exactly (bytesOf i g) (g .align) ps .0 q .0 })
+    by g m (refused n p) q z = absurd (no (no-other limit (bytesOf i g) (g .align) n p q))
+      where
+        no : (n ≡ 12) ⊎ ((n ≡ 13) × (p ≡ 0)) ⊎ ((n ≡ 11) × (p ≡ 0)) → ⊥
+        no (inl e) = omega arith
+        no (inr (inl e)) = omega (arith, e .0)
+        no (inr (inr e)) = omega (arith, e .0)
+
+    go : (m : Master) → master i ≡ m → strictCheck i .number ≡ 0 → (g : Region) × AcceptedImage i g
+    go (Read g) e z = by g e (verdict limit (bytesOf i g) (g .align)) refl (rw e at z)
+    go (Refused r) e z = absurd (refused-number i r e (rw e at z))
+
+-- Then its directory has the plain listing's places, told from the image's start, and zeros after them; its count is the listing's length.
+pub strict-check-directory : (i : List ℕ) (g : Region) → AcceptedImage i g
+    → strictCheck i ≡ record { number = 0; place = 0; count = length (plainListing (bytesOf i g) (g .align)); places = padded limit (map (λ p. g .start + p) (placesOf (plainListing (bytesOf i g) (g .align)))) }
+strict-check-directory i g a = rw (a .read, accepted-exactly (bytesOf i g) (g .align) _ .1 (a .acc, refl), length-map (plainListing (bytesOf i g) (g .align)) (λ t. t .place))
+
+-- On accepted images both walks agree.
+pub walks-agree-image : (i : List ℕ) (g : Region) → AcceptedImage i g → plainListing (bytesOf i g) (g .align) ≡ guardedListing (bytesOf i g) (g .align)
+walks-agree-image i g a = walks-agree (bytesOf i g) (g .align) (a .acc)
+
+-- Demand 3: take any image that the strict check accepts, and spoil any set of its slots.
+pub demand-3-accepted : (i : List ℕ) → strictCheck i .number ≡ 0 → (g : Region) × AcceptedImage i g × ((set : ℕ → Bool) (i′ : List ℕ) → Spoiled set i g i′ → Demand3 set i g i′)
+demand-3-accepted i z = let (g, a) = strict-check-accepts i .0 z in (g, a, λ set i′ sp. demand-3 i g (a .read) (a .acc) set i′ sp)

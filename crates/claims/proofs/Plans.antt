@@ -1,0 +1,69 @@
+-- What is known of every plan of a whole image i, over the definitions that the contracts of `stage` and `payload` cite.
+use Prim.Native.Nat.{ℕ}
+use native.Mathlib.Omega.{arith}
+use mathlib.Core.Path.{_≡_, refl, sym, ap, subst, _∙_}
+use mathlib.Core.List.{List}
+use mathlib.Core.Bool.{Bool, true, false, cond}
+use lib.Dec.{eqb}
+use Rattle.terms.specs.Terms.{refusedBy}
+use Rattle.terms.specs.declared.Region.{Region}
+use Rattle.terms.specs.declared.Refusal.{Refusal}
+use Rattle.walk.specs.declared.Taken.{Taken}
+use Rattle.master.specs.Master.{refusal, regionOf, master}
+use Rattle.master.specs.declared.Master.{Master}
+use Rattle.master.specs.declared.Master.the-variants.{Read, Refused}
+use Rattle.region.specs.declared.Found.the-variants.{At}
+use Rattle.load.specs.Stage.{refusedStage, stageIn}
+use Rattle.load.specs.Payload.{refusedPayload, payloadIn}
+use Rattle.load.specs.Accepted.{AcceptedStage, AcceptedPayload}
+use Rattle.load.proofs.Theorems as Load
+use Rattle.cbfs.specs.Cbfs.{guardedFind, guardedContent, planOn, stage, payload}
+use Rattle.claims.proofs.Accepting.{refused-number}
+
+-- A refusal of the master header tells place 0.
+refused-place : (i : List ℕ) (r : Refusal) → master i ≡ Refused r → r ≡ refusedBy (r .number)
+unfolding master
+refused-place i r e = go (eqb (refusal i) 0) e
+  where
+    go : (b : Bool) → cond b (Read (regionOf i)) (Refused (refusedBy (refusal i))) ≡ Refused r → r ≡ refusedBy (r .number)
+    go true f = let z : _≡_ {A = ℕ} 0 1 = cc in absurd (omega arith)
+    go false f = let z : refusedBy (refusal i) ≡ r = cc in subst (λ (x : Refusal). x ≡ refusedBy (x .number)) z refl
+
+-- What the number of an answer tells, for plans A of either kind.
+module _ {A : Type 0} (number : A → ℕ) (refusal : Refusal → A) (told : (r : Refusal) → number (refusal r) ≡ r .number) (i : List ℕ) (call : Region → A) where
+  -- Number 0 is that of a plan over the image's region.
+  read-plan : number (planOn (master i) refusal call) ≡ 0 → (g : Region) × (master i ≡ Read g)
+  read-plan h = go (master i) refl h
+    where
+      go : (m : Master) → master i ≡ m → number (planOn m refusal call) ≡ 0 → (g : Region) × (master i ≡ Read g)
+      go (Read g) e z = (g, e)
+      go (Refused r) e z = absurd (refused-number i r e (sym (told r) ∙ z))
+
+  refusal-zero : ((g : Region) → (number (call g) ≡ 0 → ⊥) → call g ≡ refusal (refusedBy (number (call g))))
+      → (number (planOn (master i) refusal call) ≡ 0 → ⊥) → planOn (master i) refusal call ≡ refusal (refusedBy (number (planOn (master i) refusal call)))
+  refusal-zero each h = go (master i) refl h
+    where
+      go : (m : Master) → master i ≡ m → (number (planOn m refusal call) ≡ 0 → ⊥) → planOn m refusal call ≡ refusal (refusedBy (number (planOn m refusal call)))
+      go (Read g) e z = each g z
+      go (Refused r) e z = ap refusal (refused-place i r e ∙ ap refusedBy (sym (told r)))
+
+module _ (i name : List ℕ) where
+  -- An accepted plan is that of the component t which the guarded lookup gives; the record names what is known of it.
+
+  pub stage-accepted : stage i name .number ≡ 0 → (t : Taken) × (guardedFind i name ≡ At t) × AcceptedStage i (guardedContent i name) t (stage i name)
+  stage-accepted h =
+      let (g, e) = read-plan Load.stage-number refusedStage (λ r. refl) i (λ g. stageIn i g name) h in
+      rw e (Load.stage-accepted i g name (rw e at h))
+
+  pub payload-accepted : payload i name .number ≡ 0 → (t : Taken) × (guardedFind i name ≡ At t) × AcceptedPayload i (guardedContent i name) t (payload i name)
+  payload-accepted h =
+      let (g, e) = read-plan Load.payload-number refusedPayload Load.refused-payload-number i (λ g. payloadIn i g name) h in
+      rw e (Load.payload-accepted i g name (rw e at h))
+
+  -- A refusal has its number, tells place 0, and is zero otherwise.
+
+  pub stage-refused : (stage i name .number ≡ 0 → ⊥) → stage i name ≡ refusedStage (refusedBy (stage i name .number))
+  stage-refused = refusal-zero Load.stage-number refusedStage (λ r. refl) i (λ g. stageIn i g name) (λ g. Load.stage-refused i g name)
+
+  pub payload-refused : (payload i name .number ≡ 0 → ⊥) → payload i name ≡ refusedPayload (refusedBy (payload i name .number))
+  payload-refused = refusal-zero Load.payload-number refusedPayload Load.refused-payload-number i (λ g. payloadIn i g name) (λ g. Load.payload-refused i g name)

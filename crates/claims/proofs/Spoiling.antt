@@ -1,0 +1,120 @@
+-- Demand 3 for a whole image, from the same for a region's bytes.
+use Prim.Native.Nat.{ℕ, _+_, _-_, _≤_, _<_, min}
+use native.Mathlib.Nat.{add-sub-cancel-left}
+use native.Mathlib.Omega.{arith}
+use native.Mathlib.Decide.{decLt}
+use mathlib.Core.Path.{_≡_, refl, sym, ap, subst, _∙_}
+use mathlib.Core.List.{List, [], _∷_, map, List·Memᴰ, List·Memᴰ·head, List·Memᴰ·tail, List·Memᴰ·not-nil, List·Memᴰ·cases-cons}
+use mathlib.Core.Logic.{_⊎_, inl, inr}
+use mathlib.Core.Bool.{Bool, true, false, cond, not, _&&_, _||_}
+use lib.ListN.{length, getD, take, drop, length-take, length-drop, List·getD-eq-default}
+use lib.Seq.{getD-take, getD-drop}
+use lib.Dec.{leb, ltb}
+use borrow.Author.Tests.{le-leb, lt-ltb, le-ltb, lt-leb}
+use Rattle.walk.specs.Lists.{any, keep}
+use Rattle.walk.specs.Walk.{Entry, end, onward, guardedListing}
+use Rattle.walk.specs.Lookup.{Answer, refused, gives, bears, only, guardedLookup}
+use Rattle.walk.proofs.Members.{Given, given}
+use Rattle.strict.specs.Strict.{limit, Accepted, verdict, accepted}
+use Rattle.strict.specs.Slots.{hit, Spoilt, Kept}
+use Rattle.strict.proofs.Accepting.{spoiling, walks-agree}
+use Rattle.strict.proofs.Bearing.{lone}
+use Rattle.terms.specs.Terms.{bytesOf, refusedBy}
+use Rattle.terms.specs.declared.Region.{Region}
+use Rattle.terms.proofs.Regions.{bytes-fit}
+use Rattle.master.specs.Master.{master}
+use Rattle.master.specs.declared.Master.the-variants.{Read}
+use Rattle.master.proofs.Facts.{Known, known, same-region}
+use Rattle.region.specs.Region.{takenAt, foundAt, contentFound}
+use Rattle.region.specs.declared.Found.{Found}
+use Rattle.region.specs.declared.Found.the-variants.{At, Refused}
+use Rattle.cbfs.specs.Cbfs.{guardedFind, guardedContent}
+use Rattle.claims.specs.Demand3.{placed, guardedEntries, inSlots, fromSlots, Spoiled, rivalled, Demand3}
+use Rattle.claims.proofs.Images.{map-mem, keep-map, any-map, bytes-length, same-bytes, slot-inner, same-told, through}
+use Rattle.claims.proofs.Theorems.{guarded-listing-is-steps}
+
+-- An image that the strict check accepts, its region, any set of its slots, and the image with these slots spoiled.
+module _ (i : List ℕ) (g : Region) (read : master i ≡ Read g) (acc : Accepted (bytesOf i g) (g .align)) (set : ℕ → Bool) (i′ : List ℕ) (sp : Spoiled set i g i′) where
+  -- The set by places from the region's start.
+  abbrev inner : ℕ → Bool
+  inner p = set (g .start + p)
+
+  spoilt : Spoilt inner (bytesOf i g) (g .align) (bytesOf i′ g)
+  spoilt = record {
+    alike = bytes-length i g read i′ (sp .alike) ∙ sym (bytes-length i g read i refl);
+    rest = λ k e. same-bytes i g read i′ i (sp .alike) refl k (λ h. sp .rest (g .start + k) (slot-inner i g read set i k h ∙ e));
+  }
+
+  kept : Kept inner (bytesOf i g) (g .align) (bytesOf i′ g)
+  kept = spoiling (bytesOf i g) (g .align) (omega (arith, known i g read .least)) acc inner (bytesOf i′ g) spoilt
+
+  -- Past the region nothing is spoiled, so the header is read as before.
+  outside : (b c : Bool) → b && false && c ≡ false
+  outside true c = refl
+  outside false c = refl
+
+  read′ : master i′ ≡ Read g
+  read′ = same-region i i′ g read (sp .alike) (λ j h. sp .rest j (rw (le-ltb j (g .end) h) (outside (leb (g .start) j) _)))
+
+  -- An entry of either listing stands in the region, and in a slot of the set as its place in the region does.
+  told-slot : (x : List ℕ) → length x ≡ length i → (t : Entry) → List·Memᴰ t (guardedListing (bytesOf x g) (g .align)) → fromSlots set i g (placed g t) ≡ hit inner (bytesOf i g) (g .align) (t .place)
+  told-slot x e t m = slot-inner i g read set i (t .place) (omega (arith, given true (bytesOf x g) (g .align) t m .inside, bytes-length i g read x e))
+
+  -- The name is borne by nobody else on the accepted image.
+  alone : (t : Entry) → List·Memᴰ t (guardedListing (bytesOf i g) (g .align)) → guardedLookup (bytesOf i g) (g .align) (t .component .name) ≡ gives t
+  unfolding only
+  alone t m = rw (lone (guardedListing (bytesOf i g) (g .align)) (rw (← walks-agree (bytesOf i g) (g .align) acc) (acc .told-apart)) t m)
+
+  same-bears : (name : List ℕ) (t : Entry) → bears name (placed g t) ≡ bears name t
+  unfolding bears
+  same-bears name t = refl
+
+  -- What is listed from a spoiled slot and bears the name, on the image and on its region's bytes.
+  same-rival : (name : List ℕ) → rivalled set i g i′ name ≡ any (bears name) (keep (λ t. hit inner (bytesOf i g) (g .align) (t .place)) (guardedListing (bytesOf i′ g) (g .align)))
+  same-rival name =
+      let k = keep-map (fromSlots set i g) (λ t. hit inner (bytesOf i g) (g .align) (t .place)) (placed g) (guardedListing (bytesOf i′ g) (g .align)) (told-slot i′ (sp .alike)) in
+      ap (any (bears name)) k ∙ any-map (bears name) (placed g) (keep (λ t. hit inner (bytesOf i g) (g .align) (t .place)) (guardedListing (bytesOf i′ g) (g .align))) (same-bears name)
+
+  found : (t : Entry) → List·Memᴰ t (guardedListing (bytesOf i g) (g .align)) → fromSlots set i g (placed g t) ≡ false
+      → guardedFind i′ (t .component .name) ≡ cond (rivalled set i g i′ (t .component .name)) (Refused (refusedBy 11)) (guardedFind i (t .component .name))
+  found t m f =
+      let l = kept .lookup t m (sym (told-slot i refl t m) ∙ f) in
+      rw (read, read′, l, alone t m, same-rival (t .component .name)) (go (any (bears (t .component .name)) (keep (λ u. hit inner (bytesOf i g) (g .align) (u .place)) (guardedListing (bytesOf i′ g) (g .align)))))
+    where
+      go : (b : Bool) → foundAt i′ g (cond b (refused 11) (gives t)) ≡ cond b (Refused (refusedBy 11)) (At (takenAt i g t))
+      go true = refl
+      go false = ap At (same-told i g read i′ (sp .alike) t)
+
+  given-content : (t : Entry) → List·Memᴰ t (guardedListing (bytesOf i g) (g .align)) → fromSlots set i g (placed g t) ≡ false
+      → guardedContent i′ (t .component .name) ≡ cond (rivalled set i g i′ (t .component .name)) [] (t .component .content)
+  given-content t m f =
+      let l = kept .lookup t m (sym (told-slot i refl t m) ∙ f) in
+      rw (read′, l, same-rival (t .component .name)) (go (any (bears (t .component .name)) (keep (λ u. hit inner (bytesOf i g) (g .align) (u .place)) (guardedListing (bytesOf i′ g) (g .align)))))
+    where
+      go : (b : Bool) → contentFound (cond b (refused 11) (gives t)) ≡ cond b [] (t .component .content)
+      go true = refl
+      go false = refl
+
+  before-content : (t : Entry) → List·Memᴰ t (guardedListing (bytesOf i g) (g .align)) → guardedContent i (t .component .name) ≡ t .component .content
+  before-content t m = rw (read, alone t m)
+
+  -- Demand 3, whole.
+  pub demand-3 : Demand3 set i g i′
+  demand-3 = record {
+    steps = guarded-listing-is-steps i′ g read′;
+    listed = through g i (λ t. fromSlots set i g t ≡ false → List·Memᴰ t (guardedEntries i′ g))
+        (λ t m f. map-mem (placed g) (guardedListing (bytesOf i′ g) (g .align)) t (kept .listed t m (sym (told-slot i refl t m) ∙ f)));
+    rest = keep-map (λ t. not (fromSlots set i g t)) (λ t. not (hit inner (bytesOf i g) (g .align) (t .place))) (placed g) (guardedListing (bytesOf i′ g) (g .align)) (λ t m. ap not (told-slot i′ (sp .alike) t m))
+        ∙ ap (map (placed g)) (kept .rest)
+        ∙ sym (keep-map (λ t. not (fromSlots set i g t)) (λ t. not (hit inner (bytesOf i g) (g .align) (t .place))) (placed g) (guardedListing (bytesOf i g) (g .align)) (λ t m. ap not (told-slot i refl t m)));
+    inside = through g i′ (λ t. fromSlots set i g t ≡ true → (j : ℕ) → t .place ≤ j → j < end t → inSlots set i g j ≡ true) (λ t m f j lo hi. within t m f (j - g .start) j (omega arith) lo hi);
+    lookup = through g i (λ t. fromSlots set i g t ≡ false → guardedFind i′ (t .component .name) ≡ cond (rivalled set i g i′ (t .component .name)) (Refused (refusedBy 11)) (guardedFind i (t .component .name))) found;
+    content = through g i (λ t. fromSlots set i g t ≡ false → guardedContent i′ (t .component .name) ≡ cond (rivalled set i g i′ (t .component .name)) [] (t .component .content)) given-content;
+    before = through g i (λ t. guardedContent i (t .component .name) ≡ t .component .content) before-content;
+  }
+    where
+      within : (t : Entry) → List·Memᴰ t (guardedListing (bytesOf i′ g) (g .align)) → fromSlots set i g (placed g t) ≡ true → (k j : ℕ) → j ≡ g .start + k
+          → g .start + t .place ≤ j → j < end (placed g t) → inSlots set i g j ≡ true
+      within t m f k j e lo hi =
+          let v = given true (bytesOf i′ g) (g .align) t m in
+          rw e (slot-inner i g read set i k (omega (arith, v .fits, bytes-length i g read i′ (sp .alike))) ∙ kept .inside t m (sym (told-slot i′ (sp .alike) t m) ∙ f) k (omega arith) (omega arith))

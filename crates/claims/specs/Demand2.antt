@@ -1,0 +1,82 @@
+-- Demand 2 of the order, on edits, for a whole image i whose region is g: what an edit that is done leaves in the image i′, over the
+-- definitions that the public calls' contracts cite. Where a Bool w chooses a walk, true is the guarded one.
+use Prim.Native.Nat.{ℕ, _+_, _≤_, _<_}
+use mathlib.Core.Path.{_≡_}
+use mathlib.Core.List.{List, [], map, List·Memᴰ}
+use mathlib.Core.Bool.{Bool, true, false}
+use lib.ListN.{length, getD}
+use lib.Dec.{eqb}
+use Rattle.walk.specs.Walk.{Entry, end, pickOf, listing}
+use Rattle.walk.specs.declared.Taken.{Taken}
+use Rattle.walk.proofs.Places.{Place}
+use Rattle.terms.specs.Terms.{bytesOf, refusedBy}
+use Rattle.terms.specs.declared.Region.{Region}
+use Rattle.master.specs.Master.{master}
+use Rattle.master.specs.declared.Master.the-variants.{Read}
+use Rattle.edit.specs.Edit.{offsetFor, spanBytes, putIn, instead, without}
+use Rattle.edit.proofs.Exactly.{Free}
+use Rattle.editor.specs.declared.Edited.the-variants.{Done}
+use Rattle.region.specs.declared.Found.the-variants.{At, Refused}
+use Rattle.cbfs.specs.Cbfs.{findOf, contentFoundBy, strictCheck, removed}
+use Rattle.claims.specs.Demand3.{placed, guardedEntries, inSlots}
+
+-- The listing of the image by a walk: each entry holds place, type, name and content.
+abbrev pub entries : Bool → List ℕ → Region → List Entry
+entries w i g = map (placed g) (listing (pickOf w (bytesOf i g) (g .align)) (bytesOf i g) (g .align))
+
+-- The component of these, at the place p.
+abbrev pub entryAt : ℕ → List ℕ → ℕ → List ℕ → Entry
+entryAt p name kind content = record { place = p; component = record { offset = offsetFor name; len = length content; kind = kind; name = name; content = content } }
+
+-- "The new content is found under its name": by both lookups, at the place p, with the type.
+pub record FoundThere (i′ : List ℕ) (p : ℕ) (name : List ℕ) (kind : ℕ) (content : List ℕ) : Type 0 where
+  pub found : (w : Bool) → (t : Taken) × (findOf w i′ name ≡ At t) × (t .place ≡ p) × (t .header .kind ≡ kind)
+  pub given : (w : Bool) → contentFoundBy w i′ name ≡ content
+
+-- What every edit of a name that is done at the place p leaves. s is the image whose slot was written: the new one for add, else the old one.
+pub record Leaves (i : List ℕ) (g : Region) (name : List ℕ) (p : ℕ) (s i′ : List ℕ) : Type 0 where
+  -- "The image still passes the strict check" (document 01), with the same region.
+  pub read : master i′ ≡ Read g
+  pub accepted : strictCheck i′ .number ≡ 0
+  -- "Every other name answers as before": any other byte string, by both lookups, refusals included.
+  pub others : (w : Bool) (n : List ℕ) → (n ≡ name → ⊥) → (findOf w i′ n ≡ findOf w i n) × (contentFoundBy w i′ n ≡ contentFoundBy w i n)
+  -- "No byte of another component has changed."
+  pub untouched : (t : Entry) → List·Memᴰ t (guardedEntries i g) → (t .component .name ≡ name → ⊥) → (j : ℕ) → t .place ≤ j → j < end t → getD i′ j 0 ≡ getD i j 0
+  -- "Nothing outside the slot changes (for add: outside the new slot)" (document 01), and so no byte outside the region.
+  pub alike : length i′ ≡ length i
+  pub outside : (j : ℕ) → inSlots (λ q. eqb q p) s g j ≡ false → getD i′ j 0 ≡ getD i j 0
+
+-- A component was added at p.
+pub record AddDone (i : List ℕ) (g : Region) (name : List ℕ) (kind : ℕ) (content : List ℕ) (p : ℕ) (i′ : List ℕ) : Type 0 where
+  pub leaves : Leaves i g name p i′ i′
+  pub there : FoundThere i′ p name kind content
+  -- Both listings are the old ones with the component put in.
+  pub listed : (w : Bool) → entries w i′ g ≡ putIn (entryAt p name kind content) (entries w i g)
+  -- It stands at the lowest place at which it fits: no place below p has so many free bytes.
+  pub lowest : (q : ℕ) → Place (g .align) q → Free (bytesOf i g) (g .align) q (length (spanBytes name kind content)) → p ≤ g .start + q
+  -- What remove takes away again leaves both listings as they were.
+  pub undone : (removed i′ name .answer ≡ Done p) × ((w : Bool) → entries w (removed i′ name .image) g ≡ entries w i g)
+
+-- The content of the component at p was replaced; its place, name and type are kept.
+pub record ReplaceDone (i : List ℕ) (g : Region) (name content : List ℕ) (p : ℕ) (i′ : List ℕ) : Type 0 where
+  pub leaves : Leaves i g name p i i′
+  pub kind : ℕ
+  -- It stood there before, with that type.
+  pub was : (t : Taken) × (findOf true i name ≡ At t) × (t .place ≡ p) × (t .header .kind ≡ kind)
+  pub there : FoundThere i′ p name kind content
+  -- Both listings are the old ones with the one component changed.
+  pub listed : (w : Bool) → entries w i′ g ≡ instead (entryAt p name kind content) (entries w i g)
+  -- "After the written span, every byte to the next component's start or the region's end is 0xFF" (document 01).
+  pub ones : (j : ℕ) → inSlots (λ q. eqb q p) i g j ≡ true → p + length (spanBytes name kind content) ≤ j → getD i′ j 0 ≡ 255
+
+-- The component at p was removed.
+pub record RemoveDone (i : List ℕ) (g : Region) (name : List ℕ) (p : ℕ) (i′ : List ℕ) : Type 0 where
+  pub leaves : Leaves i g name p i i′
+  -- It stood there before.
+  pub was : (t : Taken) × (findOf true i name ≡ At t) × (t .place ≡ p)
+  -- "Or a removed name nowhere": by neither lookup.
+  pub gone : (w : Bool) → (findOf w i′ name ≡ Refused (refusedBy 10)) × (contentFoundBy w i′ name ≡ [])
+  -- Both listings are the old ones with the one component left out.
+  pub listed : (w : Bool) → entries w i′ g ≡ without p (entries w i g)
+  -- "Remove sets the whole slot to 0xFF" (document 01).
+  pub ones : (j : ℕ) → inSlots (λ q. eqb q p) i g j ≡ true → getD i′ j 0 ≡ 255

@@ -1,0 +1,60 @@
+-- Demand 3 of the order, for a whole image i whose region is g: what its sentences say, over the definitions that the public calls' contracts cite.
+use Prim.Native.Nat.{ℕ, _+_, _-_, _≤_, _<_}
+use mathlib.Core.Path.{_≡_}
+use mathlib.Core.List.{List, [], map, List·Memᴰ}
+use mathlib.Core.Bool.{Bool, true, false, cond, not, _&&_}
+use lib.ListN.{length, getD}
+use lib.Dec.{leb, ltb}
+use Rattle.walk.specs.Lists.{any, keep}
+use Rattle.walk.specs.Walk.{Entry, end, guardedListing}
+use Rattle.walk.specs.Lookup.{bears}
+use Rattle.strict.specs.Slots.{hit}
+use Rattle.terms.specs.Terms.{bytesOf, refusedBy}
+use Rattle.terms.specs.declared.Region.{Region}
+use Rattle.region.specs.Region.{takenAt, Walked}
+use Rattle.region.specs.declared.Found.the-variants.{Refused}
+use Rattle.cbfs.specs.Cbfs.{guardedStep, guardedFind, guardedContent}
+
+-- A component with its place told from the image's start.
+abbrev pub placed : Region → Entry → Entry
+placed g t = record { place = g .start + t .place; component = t .component }
+
+-- The guarded listing of the image: each entry holds place, type, name and content.
+abbrev pub guardedEntries : List ℕ → Region → List Entry
+guardedEntries i g = map (placed g) (guardedListing (bytesOf i g) (g .align))
+
+-- The byte j of the image lies in a slot of the set. A slot is told by its component's place.
+abbrev pub inSlots : (ℕ → Bool) → List ℕ → Region → ℕ → Bool
+inSlots set i g j = leb (g .start) j && ltb j (g .end) && hit (λ p. set (g .start + p)) (bytesOf i g) (g .align) (j - g .start)
+
+-- "A component is listed from the slot that its place lies in" (document 01): it stands in a slot of the set.
+abbrev pub fromSlots : (ℕ → Bool) → List ℕ → Region → Entry → Bool
+fromSlots set i g t = inSlots set i g (t .place)
+
+-- "Spoil any set of its slots, whatever bytes are put in them; every other byte stays, and the other slots are untouched."
+pub record Spoiled (set : ℕ → Bool) (i : List ℕ) (g : Region) (i′ : List ℕ) : Type 0 where
+  pub alike : length i′ ≡ length i
+  pub rest : (j : ℕ) → inSlots set i g j ≡ false → getD i′ j 0 ≡ getD i j 0
+
+-- Something that is listed from a spoiled slot bears the name.
+abbrev pub rivalled : (ℕ → Bool) → List ℕ → Region → List ℕ → List ℕ → Bool
+rivalled set i g i′ name = any (bears name) (keep (fromSlots set i g) (guardedEntries i′ g))
+
+pub record Demand3 (set : ℕ → Bool) (i : List ℕ) (g : Region) (i′ : List ℕ) : Type 0 where
+  -- All guarded steps on the spoiled image count, from offset to none left; "none of them is refused" (document 01).
+  pub steps : Walked (guardedStep i′) (g .start) (map (takenAt i′ g) (guardedListing (bytesOf i′ g) (g .align)))
+  -- "The guarded listing of the spoiled image still gives the component of every untouched slot."
+  pub listed : (t : Entry) → List·Memᴰ t (guardedEntries i g) → fromSlots set i g t ≡ false → List·Memᴰ t (guardedEntries i′ g)
+  -- "Leave out what it lists from spoiled slots: the rest equals the accepted image's guarded listing with the spoiled slots' components
+  -- left out, in the same order and alike in place, type, name and content."
+  pub rest : keep (λ t. not (fromSlots set i g t)) (guardedEntries i′ g) ≡ keep (λ t. not (fromSlots set i g t)) (guardedEntries i g)
+  -- "Whatever else the spoiled image lists has its whole span in spoiled slots."
+  pub inside : (t : Entry) → List·Memᴰ t (guardedEntries i′ g) → fromSlots set i g t ≡ true → (j : ℕ) → t .place ≤ j → j < end t → inSlots set i g j ≡ true
+  -- "The guarded lookup of an untouched component's name gives that component, place and content as before, exactly when nothing listed
+  -- from a spoiled slot bears the name too. Otherwise it refuses with 11. It never gives another."
+  pub lookup : (t : Entry) → List·Memᴰ t (guardedEntries i g) → fromSlots set i g t ≡ false
+      → guardedFind i′ (t .component .name) ≡ cond (rivalled set i g i′ (t .component .name)) (Refused (refusedBy 11)) (guardedFind i (t .component .name))
+  pub content : (t : Entry) → List·Memᴰ t (guardedEntries i g) → fromSlots set i g t ≡ false
+      → guardedContent i′ (t .component .name) ≡ cond (rivalled set i g i′ (t .component .name)) [] (t .component .content)
+  -- Before the spoiling the lookup of a component's name gives that component, with its content.
+  pub before : (t : Entry) → List·Memᴰ t (guardedEntries i g) → guardedContent i (t .component .name) ≡ t .component .content

@@ -1,0 +1,56 @@
+-- What the number of an answer tells, for stages and payloads alike: A is either kind of plan.
+use Prim.Native.Nat.{ℕ}
+use mathlib.Core.Path.{_≡_, refl, sym, ap, _∙_}
+use mathlib.Core.Bool.{Bool, true, false, cond}
+use mathlib.Core.List.{List}
+use lib.Dec.{eqb}
+use borrow.Author.Tests.{eqb-true, eqb-false}
+use Rattle.terms.specs.Terms.{refusedBy}
+use Rattle.terms.specs.declared.Refusal.{Refusal}
+use Rattle.terms.specs.declared.Region.{Region}
+use Rattle.walk.specs.declared.Taken.{Taken}
+use Rattle.region.specs.Region.{findIn}
+use Rattle.region.specs.declared.Found.{Found}
+use Rattle.region.specs.declared.Found.the-variants.{At, Refused}
+use Rattle.load.specs.Fits.{planFor}
+use Rattle.load.proofs.Finding.{never-zero, refused-place}
+
+module _ {A : Type 0} (number : A → ℕ) (refusal : Refusal → A) (told : (r : Refusal) → number (refusal r) ≡ r .number) where
+  -- By the number n of the first test that fails: the plan p where it is 0.
+  module _ (n : ℕ) (p : A) (zero : number p ≡ 0) where
+    abbrev answer : Bool → A
+    answer b = cond b p (refusal (refusedBy n))
+
+    pub accepted : number (answer (eqb n 0)) ≡ 0 → (n ≡ 0) × (answer (eqb n 0) ≡ p)
+    accepted h = go (eqb n 0) refl h
+      where
+        go : (b : Bool) → eqb n 0 ≡ b → number (answer b) ≡ 0 → (n ≡ 0) × (answer b ≡ p)
+        go true q z = (eqb-true n 0 q, refl)
+        go false q z = absurd (eqb-false n 0 q (sym (told (refusedBy n)) ∙ z))
+
+    pub refused : (number (answer (eqb n 0)) ≡ 0 → ⊥) → answer (eqb n 0) ≡ refusal (refusedBy (number (answer (eqb n 0))))
+    refused h = go (eqb n 0) h
+      where
+        go : (b : Bool) → (number (answer b) ≡ 0 → ⊥) → answer b ≡ refusal (refusedBy (number (answer b)))
+        go true z = absurd (z zero)
+        go false z = ap (λ (m : ℕ). refusal (refusedBy m)) (sym (told (refusedBy n)))
+
+  -- By the lookup of a name.
+  module _ (i : List ℕ) (g : Region) (name : List ℕ) (plan : Taken → A) where
+    -- Number 0 is that of a plan.
+    pub found-plan : number (planFor (findIn true i g name) refusal plan) ≡ 0 → (t : Taken) × (findIn true i g name ≡ At t) × (number (plan t) ≡ 0)
+    found-plan h = go (findIn true i g name) refl h
+      where
+        go : (f : Found) → findIn true i g name ≡ f → number (planFor f refusal plan) ≡ 0 → (t : Taken) × (findIn true i g name ≡ At t) × (number (plan t) ≡ 0)
+        go (Refused r) q z = absurd (never-zero i g name r q (sym (told r) ∙ z))
+        go (At t) q z = (t, q, z)
+
+    -- Any other is that of a refusal, which tells place 0 and is zero otherwise.
+    pub refusal-zero : ((t : Taken) → (number (plan t) ≡ 0 → ⊥) → plan t ≡ refusal (refusedBy (number (plan t))))
+        → (number (planFor (findIn true i g name) refusal plan) ≡ 0 → ⊥)
+        → planFor (findIn true i g name) refusal plan ≡ refusal (refusedBy (number (planFor (findIn true i g name) refusal plan)))
+    refusal-zero each h = go (findIn true i g name) refl h
+      where
+        go : (f : Found) → findIn true i g name ≡ f → (number (planFor f refusal plan) ≡ 0 → ⊥) → planFor f refusal plan ≡ refusal (refusedBy (number (planFor f refusal plan)))
+        go (Refused r) q z = ap refusal (refused-place i g name r q ∙ ap refusedBy (sym (told r)))
+        go (At t) q z = each t z

@@ -1,0 +1,99 @@
+-- The component that the guarded lookup finds: where its content stands in the image.
+use Prim.Native.Nat.{ℕ, _+_, _-_, _≤_}
+use native.Mathlib.Omega.{arith}
+use mathlib.Core.Path.{_≡_, refl, sym, ap, subst, _∙_}
+use mathlib.Core.Bool.{true}
+use mathlib.Core.List.{List, [], _∷_}
+use lib.ListN.{length, take, drop, length-drop}
+use lib.Seq.{length-take-le, getD-take, drop-drop}
+use Rattle.number.specs.Bytes.{partOf}
+use Rattle.number.proofs.Splice.{part-in}
+use Rattle.component.proofs.Judging.{judge-content, window}
+use Rattle.walk.specs.Lists.{keep}
+use Rattle.walk.specs.Walk.{Entry, guardedListing}
+use Rattle.walk.specs.Lookup.{Answer, refused, gives, bears, only, lookupOf}
+use Rattle.walk.specs.declared.Taken.{Taken}
+use Rattle.walk.proofs.Members.{Given, given, lookup-member}
+use Rattle.terms.specs.Terms.{bytesOf, refusedBy}
+use Rattle.terms.specs.declared.Region.{Region}
+use Rattle.terms.specs.declared.Refusal.{Refusal}
+use Rattle.terms.proofs.Regions.{bytes-fit, bytes-inside}
+use Rattle.region.specs.Region.{takenAt, foundAt, findIn, contentIn, contentFound}
+use Rattle.region.specs.declared.Found.the-variants.{At, Refused}
+use Rattle.load.specs.Fits.{contentPlace}
+
+-- A part of the first n bytes is a part of the whole.
+part-of-first : (l : List ℕ) (n k m : ℕ) → k + m ≤ n → n ≤ length l → take m (drop k (take n l)) ≡ take m (drop k l)
+part-of-first l n k m h f = window m k (take n l) l (omega (arith, length-take-le n l f)) (λ j b c. getD-take n l (k + j) 0 (omega arith))
+
+-- The content of a component that was found is the part of the image that its numbers tell.
+pub record Located (i s : List ℕ) (t : Taken) : Type 0 where
+  pub content : partOf i (contentPlace t) (t .header .len) ≡ s
+  pub length-is : length s ≡ t .header .len
+  pub within : contentPlace t + t .header .len ≤ length i
+
+module _ (i : List ℕ) (g : Region) (name : List ℕ) where
+  abbrev looked : Answer
+  looked = lookupOf true (bytesOf i g) (g .align) name
+
+  standing : (e : Entry) → looked ≡ gives e → Located i (e .component .content) (takenAt i g e)
+  standing e q = record {
+    content = sym (part-in i (g .start + e .place + e .component .offset) (e .component .len) fits) ∙ sym whole;
+    length-is = content .1;
+    within = fits;
+  }
+    where
+      a : Given (bytesOf i g) (g .align) e
+      a = given true (bytesOf i g) (g .align) e (lookup-member true (bytesOf i g) (g .align) name e q .0)
+
+      ends : (g .start + length (bytesOf i g) ≡ g .end) × (g .end ≤ length i)
+      ends = bytes-inside i g (e .place) (a .inside)
+
+      fits : g .start + e .place + e .component .offset + e .component .len ≤ length i
+      fits = omega (arith, ends, a .fits)
+
+      content : (e .component .content ≡ take (e .component .len) (drop (e .component .offset) (drop (e .place) (bytesOf i g)))) × (length (e .component .content) ≡ e .component .len)
+      content = judge-content (drop (e .place) (bytesOf i g)) (e .component) (a .judged)
+
+      whole : e .component .content ≡ take (e .component .len) (drop (g .start + e .place + e .component .offset) i)
+      whole =
+          let k : ℕ = e .place + e .component .offset in
+          let n : ℕ = g .end - g .start in
+          let r : bytesOf i g ≡ take n (drop (g .start) i) = bytes-fit i g (omega (arith, ends)) (ends .1) in
+          let d : n ≤ length (drop (g .start) i) = rw length-drop (omega (arith, ends)) in
+          let p : g .start + k ≡ g .start + e .place + e .component .offset = omega arith in
+          content .0
+          ∙ ap (λ (x : List ℕ). take (e .component .len) x) (drop-drop (e .component .offset) (e .place) (bytesOf i g))
+          ∙ ap (λ (x : List ℕ). take (e .component .len) (drop k x)) r
+          ∙ part-of-first (drop (g .start) i) n k (e .component .len) (omega (arith, ends, a .fits)) d
+          ∙ ap (λ (x : List ℕ). take (e .component .len) x) (drop-drop k (g .start) i)
+          ∙ ap (λ (x : ℕ). take (e .component .len) (drop x i)) p
+
+  pub located : (t : Taken) → findIn true i g name ≡ At t → Located i (contentIn true i g name) t
+  located t f = go looked refl f
+    where
+      go : (o : Answer) → looked ≡ o → foundAt i g o ≡ At t → Located i (contentFound o) t
+      go (refused n) q h = let z : _≡_ {A = ℕ} 0 1 = cc in absurd (omega arith)
+      go (gives e) q h = let z : takenAt i g e ≡ t = cc in subst (λ (x : Taken). Located i (e .component .content) x) z (standing e q)
+
+  -- No lookup refuses by 0.
+  pub never-zero : (r : Refusal) → findIn true i g name ≡ Refused r → r .number ≡ 0 → ⊥
+  unfolding only
+  never-zero r f = go looked refl f
+    where
+      number : (l : List Entry) (n : ℕ) → only l ≡ refused n → n ≡ 0 → ⊥
+      number [] n q z = let y : 10 ≡ n = cc in omega arith
+      number (x ∷ []) n q z = let y : _≡_ {A = ℕ} 0 1 = cc in omega arith
+      number (x ∷ y ∷ l) n q z = let y : 11 ≡ n = cc in omega arith
+
+      go : (o : Answer) → looked ≡ o → foundAt i g o ≡ Refused r → r .number ≡ 0 → ⊥
+      go (refused n) q h z = let y : refusedBy n ≡ r = cc in number (keep (bears name) (guardedListing (bytesOf i g) (g .align))) n q (ap (λ (x : Refusal). x .number) y ∙ z)
+      go (gives e) q h z = let y : _≡_ {A = ℕ} 0 1 = cc in omega arith
+
+  -- A refused lookup tells place 0.
+  pub refused-place : (r : Refusal) → findIn true i g name ≡ Refused r → r ≡ refusedBy (r .number)
+  refused-place r f = go looked f
+    where
+      go : (o : Answer) → foundAt i g o ≡ Refused r → r ≡ refusedBy (r .number)
+      go (refused n) e = let z : refusedBy n ≡ r = cc in subst (λ (x : Refusal). x ≡ refusedBy (x .number)) z refl
+      go (gives t) e = let z : _≡_ {A = ℕ} 0 1 = cc in absurd (omega arith)

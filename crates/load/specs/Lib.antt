@@ -1,0 +1,4 @@
+pub mod Fits
+pub mod Stage
+pub mod Payload
+pub mod Accepted
