@@ -1,0 +1,214 @@
+-- Document 01's starred cases ("Bench image A"), in its order: each line is a call's definition at its arguments, and the answer that the paper gives.
+use Prim.Native.Nat.{ℕ, _+_, _-_, _^_}
+use mathlib.Core.Path.{_≡_}
+use mathlib.Core.List.{List, [], _∷_, _++_}
+use lib.ListN.{length, replicate}
+use Rattle.number.specs.Number.{beBytes, leBytes}
+use Rattle.component.specs.Component.{magic}
+use Rattle.walk.specs.declared.Taken.{Taken}
+use Rattle.terms.specs.Terms.{refusedBy}
+use Rattle.terms.specs.declared.Region.{Region}
+use Rattle.master.specs.Master.{master}
+use Rattle.master.specs.declared.Master.the-variants.{Read, Refused}
+use Rattle.edit.specs.Edit.{spanBytes}
+use Rattle.load.specs.Stage.{refusedStage}
+use Rattle.load.specs.Payload.{codeType, bssType, entryType, unused, refusedPayload}
+use Rattle.load.specs.declared.StagePlan.{StagePlan}
+use Rattle.load.specs.declared.PayloadPlan.{PayloadPlan}
+use Rattle.region.specs.Region.{Walked}
+use Rattle.region.specs.declared.Step.the-variants.{Took}
+use Rattle.region.specs.declared.Found.the-variants.{At}
+use Rattle.region.specs.declared.Found.the-variants.{Refused as NotFound}
+use Rattle.editor.specs.declared.Edited.the-variants.{Done}
+use Rattle.editor.specs.declared.Edited.the-variants.{Refused as NotDone}
+use Rattle.cbfs.specs.Cbfs.{plainStep, guardedStep, plainFind, guardedFind, nameAt, added, replaced, stage, payload}
+
+-- An image of 4096 bytes: the region's bytes r, 0xFF after them, the master header with bootblocksize, align and offset, and P, which is 0xFFFFFF00 + p.
+unfoldable pub image : List ℕ → ℕ → ℕ → ℕ → ℕ → List ℕ
+image r boot align offset p =
+    r ++ (replicate (4060 - length r) 0xFF
+    ++ (beBytes 4 0x4F524243 ++ (beBytes 4 0x31313131 ++ (beBytes 4 4096 ++ (beBytes 4 boot ++ (beBytes 4 align ++ (beBytes 4 offset ++ (replicate 8 0 ++ leBytes 4 (0xFFFFFF00 + p)))))))))
+
+-- The names cal/12 (d is 50) and cal/13 (51), and log; the type of bench image A's components.
+
+unfoldable pub cal : ℕ → List ℕ
+cal d = 99 ∷ 97 ∷ 108 ∷ 47 ∷ 49 ∷ d ∷ []
+
+unfoldable pub log : List ℕ
+log = 108 ∷ 111 ∷ 103 ∷ []
+
+abbrev pub table : ℕ
+table = 0xFFFFFFFF
+
+-- The header and name field of a component at offset 40.
+unfoldable pub head : ℕ → List ℕ → List ℕ
+head len name = magic ++ (beBytes 4 len ++ (beBytes 4 table ++ (beBytes 4 0 ++ (beBytes 4 40 ++ (name ++ replicate (16 - length name) 0)))))
+
+-- Bench image A's region, with cal/12's len and its name given: 100 zeros of content, and 24 of cal/13's, which stands at 192.
+unfoldable pub tables : ℕ → List ℕ → List ℕ
+tables len name = head len name ++ (replicate 100 0 ++ (replicate 52 0xFF ++ (head 24 (cal 51) ++ replicate 24 0)))
+
+-- Bench image A; and A with another bootblocksize, align, offset or P.
+
+abbrev pub A : List ℕ
+A = image (tables 100 (cal 50)) 1024 64 0 0xDC
+
+abbrev pub A-address : ℕ → List ℕ
+A-address p = image (tables 100 (cal 50)) 1024 64 0 p
+
+abbrev pub A-bootblock : ℕ → List ℕ
+A-bootblock boot = image (tables 100 (cal 50)) boot 64 0 0xDC
+
+abbrev pub A-align : ℕ → List ℕ
+A-align align = image (tables 100 (cal 50)) 1024 align 0 0xDC
+
+abbrev pub A-offset : ℕ → List ℕ
+A-offset offset = image (tables 100 (cal 50)) 1024 64 offset 0xDC
+
+-- A with cal/12's len made 500, and with its name made cal/13.
+
+abbrev pub A-500 : List ℕ
+A-500 = image (tables 500 (cal 50)) 1024 64 0 0xDC
+
+abbrev pub A-twice : List ℕ
+A-twice = image (tables 100 (cal 51)) 1024 64 0 0xDC
+
+-- A component whose span has 1052 bytes, at 0, with align 1024.
+abbrev pub wide : List ℕ
+wide = image (head 1012 (cal 50) ++ replicate 1012 0) 1024 1024 0 0xDC
+
+abbrev pub region : ℕ → ℕ → ℕ → Region
+region s e a = record { start = s; end = e; align = a }
+
+-- A component as a step or a lookup tells it: its place, offset, len, type and the length of its name, and the number to go on from.
+abbrev pub told : ℕ → ℕ → ℕ → ℕ → ℕ → ℕ → Taken
+told p offset len kind named next = record { place = p; header = record { offset = offset; len = len; kind = kind; named = named }; next = next }
+
+-- A component named boot alone at 0, of this type and content: its content begins at 40.
+
+unfoldable pub boot : List ℕ
+boot = 98 ∷ 111 ∷ 111 ∷ 116 ∷ []
+
+abbrev pub holding : ℕ → List ℕ → List ℕ
+holding kind content = image (spanBytes boot kind content) 1024 64 0 0xDC
+
+-- A payload: CODE of 4 bytes at 0x1000 for 0x100, BSS of 16 bytes at b, ENTRY at 0x1000. The 4 bytes stand after the records, at 124.
+abbrev pub records : ℕ → List ℕ
+records b =
+    leBytes 4 codeType ++ (beBytes 4 0 ++ (beBytes 4 124 ++ (beBytes 8 0x1000 ++ (beBytes 4 4 ++ (beBytes 4 0x100
+    ++ (leBytes 4 bssType ++ (beBytes 4 0 ++ (beBytes 4 0 ++ (beBytes 8 b ++ (beBytes 4 0 ++ (beBytes 4 16
+    ++ (leBytes 4 entryType ++ (beBytes 4 0 ++ (beBytes 4 0 ++ (beBytes 8 0x1000 ++ (beBytes 4 0 ++ (beBytes 4 0 ++ replicate 4 0)))))))))))))))))
+
+-- Its plan.
+abbrev pub planned : ℕ → PayloadPlan
+planned b = record {
+  number = 0;
+  place = 0;
+  count = 3;
+  segments = record { kind = codeType; compression = 0; source = 124; load = 0x1000; len = 4; memlen = 0x100 }
+      ∷ record { kind = bssType; compression = 0; source = 0; load = b; len = 0; memlen = 16 }
+      ∷ record { kind = entryType; compression = 0; source = 0; load = 0x1000; len = 0; memlen = 0 }
+      ∷ replicate 13 unused;
+}
+
+-- A stage of 4 bytes with load and entry 2^64 - 16, for m bytes; and its plan.
+
+abbrev pub loading : ℕ → List ℕ
+loading m = leBytes 4 0 ++ (leBytes 8 (2 ^ 64 - 16) ++ (leBytes 8 (2 ^ 64 - 16) ++ (leBytes 4 4 ++ (leBytes 4 m ++ replicate 4 0))))
+
+abbrev pub loaded : ℕ → StagePlan
+loaded m = record { number = 0; place = 0; compression = 0; entry = 2 ^ 64 - 16; load = 2 ^ 64 - 16; source = 68; len = 4; memlen = m }
+
+-- LARCHIVE from byte n of the content on.
+unfoldable pub hidingAt : ℕ → List ℕ
+hidingAt n = replicate n 0 ++ magic
+
+infixr 5 _and_
+-- Every statement of a list holds.
+pub data All : List (Type 0) → Type 1 where
+  nothing-more : All []
+  _and_ : {x : Type 0} {xs : List (Type 0)} → x → All xs → All (x ∷ xs)
+
+-- ★ P 0xFFFFFFDC read, 0xFFFFFFDD: 2. ★ bootblocksize 36 read, 35: 6.
+abbrev pub addresses : List (Type 0)
+addresses =
+    (master (A-address 0xDC) ≡ Read (region 0 3072 64))
+    ∷ (master (A-address 0xDD) ≡ Refused (refusedBy 2))
+    ∷ (master (A-bootblock 36) ≡ Read (region 0 4060 64))
+    ∷ (master (A-bootblock 35) ≡ Refused (refusedBy 6))
+    ∷ []
+
+-- ★ align 16 read; 8, 48 and 131,072: 7. Empty region: an empty listing.
+abbrev pub aligns : List (Type 0)
+aligns =
+    (master (A-align 16) ≡ Read (region 0 3072 16))
+    ∷ (master (A-align 8) ≡ Refused (refusedBy 7))
+    ∷ (master (A-align 48) ≡ Refused (refusedBy 7))
+    ∷ (master (A-align 131072) ≡ Refused (refusedBy 7))
+    ∷ Walked (plainStep (A-offset 3072)) 3072 []
+    ∷ Walked (guardedStep (A-offset 3072)) 3072 []
+    ∷ []
+
+-- ★ Span of 1052 at 0 with align 1024: next place 2048.
+abbrev pub spans : List (Type 0)
+spans =
+    (plainStep wide 0 ≡ Took (told 0 40 1012 table 6 2048))
+    ∷ (guardedStep wide 0 ≡ Took (told 0 40 1012 table 6 2048))
+    ∷ []
+
+-- ★ Name of 15 bytes: offset 40; of 16: offset 56; of 255: 280.
+abbrev pub offsets : List (Type 0)
+offsets =
+    (plainFind (added A (replicate 15 0x78) 0x50 [] .image) (replicate 15 0x78) ≡ At (told 256 40 0 0x50 15 320))
+    ∷ (plainFind (added A (replicate 16 0x78) 0x50 [] .image) (replicate 16 0x78) ≡ At (told 256 56 0 0x50 16 320))
+    ∷ (plainFind (added A (replicate 255 0x78) 0x50 [] .image) (replicate 255 0x78) ≡ At (told 256 280 0 0x50 255 576))
+    ∷ []
+
+-- ★ A with cal/12's len made 500: plain listing loses cal/13; guarded lists only cal/13, at 192.
+abbrev pub overrun : List (Type 0)
+overrun =
+    Walked (plainStep A-500) 0 (told 0 40 500 table 6 576 ∷ [])
+    ∷ Walked (guardedStep A-500) 0 (told 192 40 24 table 6 256 ∷ [])
+    ∷ (nameAt A-500 192 ≡ cal 51)
+    ∷ []
+
+-- ★ A with cal/12's name made cal/13: plain lookup gives place 0, guarded refuses 11.
+abbrev pub twice : List (Type 0)
+twice =
+    (plainFind A-twice (cal 51) ≡ At (told 0 40 100 table 6 192))
+    ∷ (guardedFind A-twice (cal 51) ≡ NotFound (refusedBy 11))
+    ∷ []
+
+-- ★ Replace cal/12 by 152 bytes fits, 153: 17.
+abbrev pub replacing : List (Type 0)
+replacing =
+    (replaced A (cal 50) (replicate 152 0) .answer ≡ Done 0)
+    ∷ (replaced A (cal 50) (replicate 153 0) .answer ≡ NotDone (refusedBy 17))
+    ∷ []
+
+-- ★ Add log of 2776 bytes goes to 256; 2777: 17.
+abbrev pub growing : List (Type 0)
+growing =
+    (added A log 0x50 (replicate 2776 0) .answer ≡ Done 256)
+    ∷ (added A log 0x50 (replicate 2777 0) .answer ≡ NotDone (refusedBy 17))
+    ∷ []
+
+-- ★ Add log with LARCHIVE at content byte 24: 16; at byte 25 accepted.
+abbrev pub hiding : List (Type 0)
+hiding =
+    (added A log 0x50 (hidingAt 24) .answer ≡ NotDone (refusedBy 16))
+    ∷ (added A log 0x50 (hidingAt 25) .answer ≡ Done 256)
+    ∷ []
+
+-- ★ CODE at 0x1000 for 0x100: BSS of 16 bytes at 0x1100 accepted, at 0x10FF: 26. Load 2^64 - 16 for 16 bytes accepted, for 17: 25.
+abbrev pub plans : List (Type 0)
+plans =
+    (payload (holding 0x20 (records 0x1100)) boot ≡ planned 0x1100)
+    ∷ (payload (holding 0x20 (records 0x10FF)) boot ≡ refusedPayload (refusedBy 26))
+    ∷ (stage (holding 0x10 (loading 16)) boot ≡ loaded 16)
+    ∷ (stage (holding 0x10 (loading 17)) boot ≡ refusedStage (refusedBy 25))
+    ∷ []
+
+-- All of them, in the order of the paper.
+abbrev pub starred : List (Type 0)
+starred = addresses ++ (aligns ++ (spans ++ (offsets ++ (overrun ++ (twice ++ (replacing ++ (growing ++ (hiding ++ plans))))))))
