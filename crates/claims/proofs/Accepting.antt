@@ -1,7 +1,7 @@
 -- What the strict check's answer says of a whole image.
 use Prim.Native.Nat.{ℕ, _+_}
 use native.Mathlib.Omega.{arith}
-use mathlib.Core.Path.{_≡_, refl, sym, ap, _∙_}
+use mathlib.Core.Path.{_≡_, refl, ap, _∙_}
 use mathlib.Core.List.{List, map}
 use mathlib.Core.Logic.{_↔_, _⊎_, inl, inr}
 use mathlib.Core.Bool.{Bool, true, false, cond}
@@ -17,7 +17,6 @@ use Rattle.master.specs.declared.Master.{Master}
 use Rattle.master.specs.declared.Master.the-variants.{Read, Refused}
 use Rattle.strict.specs.Strict.{limit, Accepted, Verdict, refused, accepted, placesOf, verdict, padded}
 use Rattle.strict.specs.Directory.{directory}
-use Rattle.strict.specs.declared.Directory.{Directory}
 use Rattle.strict.proofs.Verdicts.{accepted-exactly, no-other}
 use Rattle.strict.proofs.Accepting.{walks-agree}
 use Rattle.cbfs.specs.Cbfs.{strictCheck}

@@ -1,41 +1,34 @@
 -- Demand 2 on edits for a whole image, from the same for a region's bytes.
 use Prim.Native.Nat.{ℕ, _+_, _-_, _^_, _≤_, _<_}
 use native.Mathlib.Omega.{arith}
-use native.Mathlib.Decide.{decLt, decLe}
+use native.Mathlib.Decide.{decLt}
 use mathlib.Core.Path.{_≡_, refl, sym, ap, subst, _∙_}
 use mathlib.Core.List.{List, [], _∷_, map, List·Memᴰ}
-use mathlib.Core.Logic.{_↔_}
-use mathlib.Core.Bool.{Bool, true, false, cond, not, _&&_, _||_, true≢false}
+use mathlib.Core.Bool.{Bool, true, false, cond, not, _&&_, true≢false}
 use lib.ListN.{length, getD}
 use lib.Dec.{eqb, ltb, leb}
 use borrow.Author.Tests.{leb-true, eq-eqb, ne-eqb, eqb-true, eqb-false, lt-ltb, le-ltb, ltb-true, ltb-false}
-use Rattle.walk.specs.Walk.{Entry, end, pickOf, listing, plainListing, guardedListing}
+use Rattle.walk.specs.Walk.{Entry, end, plainListing, guardedListing}
 use Rattle.walk.specs.Lookup.{Answer, refused, gives, lookupOf}
-use Rattle.walk.specs.declared.Taken.{Taken}
-use Rattle.walk.proofs.Places.{Place}
 use Rattle.terms.specs.Terms.{bytesOf, refusedBy}
 use Rattle.terms.specs.declared.Region.{Region}
-use Rattle.terms.specs.declared.Refusal.{Refusal}
 use Rattle.master.specs.Master.{master}
-use Rattle.master.specs.declared.Master.{Master}
-use Rattle.master.specs.declared.Master.the-variants.{Read, Refused}
+use Rattle.master.specs.declared.Master.the-variants.{Read}
 use Rattle.master.proofs.Facts.{Known, known, same-region}
 use Rattle.strict.specs.Strict.{limit, Accepted}
 use Rattle.strict.proofs.Keeping.{both-true}
-use Rattle.strict.specs.Slots.{start, within, hit, Spoilt}
-use Rattle.edit.specs.Edit.{offsetFor, spanBytes, putIn, instead, without, add, replace, remove}
+use Rattle.strict.specs.Slots.{start, within, hit}
+use Rattle.edit.specs.Edit.{spanBytes, putIn, instead, without, add, replace, remove}
 use Rattle.edit.proofs.Outcomes.{Finds, Others, Added, Replaced, Removed}
 use Rattle.edit.proofs.Theorems.{Bytes, add-accepted, add-done}
-use Rattle.edit.proofs.Exactly.{Free, held-exactly, Undone, add-undone}
-use Rattle.editor.specs.Image.{Result, inImage, addIn, replaceIn, removeIn}
-use Rattle.editor.specs.declared.Edited.{Edited}
+use Rattle.edit.proofs.Exactly.{held-exactly, Undone, add-undone}
+use Rattle.editor.specs.Image.{addIn, replaceIn, removeIn}
 use Rattle.editor.specs.declared.Edited.the-variants.{Done}
-use Rattle.editor.specs.declared.Edited.the-variants.{Refused as EditRefused}
-use Rattle.editor.proofs.Around.{Around, add-around, replace-around, remove-around, add-same, replace-same, remove-same, done-place, replace-promise, remove-promise}
-use Rattle.region.specs.Region.{takenAt, foundAt, contentFound}
+use Rattle.editor.proofs.Around.{Around, add-around, replace-around, remove-around, done-place, replace-promise, remove-promise}
+use Rattle.region.specs.Region.{takenAt, foundAt}
 use Rattle.region.specs.declared.Found.the-variants.{At}
 use Rattle.region.specs.declared.Found.the-variants.{Refused as FoundRefused}
-use Rattle.cbfs.specs.Cbfs.{findOf, contentFoundBy, strictCheck, editOn, added, replaced, removed}
+use Rattle.cbfs.specs.Cbfs.{findOf, contentFoundBy, removed}
 use Rattle.claims.specs.Demand3.{placed, guardedEntries, inSlots}
 use Rattle.claims.specs.Demand2.{entries, entryAt, FoundThere, Leaves, AddDone, ReplaceDone, RemoveDone}
 use Rattle.claims.proofs.Images.{keep-map, bytes-length, bytes-at, slot-inner, same-told, through}

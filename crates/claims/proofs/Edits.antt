@@ -1,8 +1,8 @@
 -- The edits of a whole image, over the definitions that the contracts of `add`, `replace` and `remove` cite (the order, demands 1 and 2).
 use Prim.Native.Nat.{ℕ, _+_, _^_, _≤_, _<_}
 use native.Mathlib.Omega.{arith}
-use mathlib.Core.Path.{_≡_, refl, sym, ap, subst, _∙_}
-use mathlib.Core.List.{List, []}
+use mathlib.Core.Path.{_≡_, refl, sym, ap, _∙_}
+use mathlib.Core.List.{List}
 use mathlib.Core.Logic.{_↔_}
 use mathlib.Core.Bool.{true, cond}
 use lib.ListN.{length}
@@ -22,7 +22,6 @@ use Rattle.edit.proofs.Decisions.{clash, not-write, refused-is, check-late, Ope
 use Rattle.edit.proofs.Theorems.{Bytes, buries-exactly}
 use Rattle.edit.proofs.Exactly.{Free, held-exactly, add-16, add-17-free, add-does}
 use Rattle.editor.specs.Image.{Result, answerOf, addIn, replaceIn, removeIn}
-use Rattle.editor.specs.declared.Edited.{Edited}
 use Rattle.editor.specs.declared.Edited.the-variants.{Done}
 use Rattle.editor.specs.declared.Edited.the-variants.{Refused as EditRefused}
 use Rattle.editor.proofs.Around.{add-same, replace-same, remove-same}

@@ -12,7 +12,7 @@ use lib.Seq.{getD-take, getD-drop}
 use borrow.Author.Tests.{le-leb, lt-ltb}
 use Rattle.walk.specs.Lists.{any, keep}
 use Rattle.walk.specs.Walk.{Entry, onward, guardedListing}
-use Rattle.strict.specs.Slots.{hit, Spoilt}
+use Rattle.strict.specs.Slots.{hit}
 use Rattle.terms.specs.Terms.{bytesOf}
 use Rattle.terms.specs.declared.Region.{Region}
 use Rattle.terms.proofs.Regions.{bytes-fit}

@@ -1,32 +1,26 @@
 -- Demand 3 for a whole image, from the same for a region's bytes.
-use Prim.Native.Nat.{ℕ, _+_, _-_, _≤_, _<_, min}
-use native.Mathlib.Nat.{add-sub-cancel-left}
+use Prim.Native.Nat.{ℕ, _+_, _-_, _≤_, _<_}
 use native.Mathlib.Omega.{arith}
-use native.Mathlib.Decide.{decLt}
-use mathlib.Core.Path.{_≡_, refl, sym, ap, subst, _∙_}
-use mathlib.Core.List.{List, [], _∷_, map, List·Memᴰ, List·Memᴰ·head, List·Memᴰ·tail, List·Memᴰ·not-nil, List·Memᴰ·cases-cons}
-use mathlib.Core.Logic.{_⊎_, inl, inr}
-use mathlib.Core.Bool.{Bool, true, false, cond, not, _&&_, _||_}
-use lib.ListN.{length, getD, take, drop, length-take, length-drop, List·getD-eq-default}
-use lib.Seq.{getD-take, getD-drop}
-use lib.Dec.{leb, ltb}
-use borrow.Author.Tests.{le-leb, lt-ltb, le-ltb, lt-leb}
+use mathlib.Core.Path.{_≡_, refl, sym, ap, _∙_}
+use mathlib.Core.List.{List, [], map, List·Memᴰ}
+use mathlib.Core.Bool.{Bool, true, false, cond, not, _&&_}
+use lib.ListN.{length}
+use lib.Dec.{leb}
+use borrow.Author.Tests.{le-ltb}
 use Rattle.walk.specs.Lists.{any, keep}
-use Rattle.walk.specs.Walk.{Entry, end, onward, guardedListing}
-use Rattle.walk.specs.Lookup.{Answer, refused, gives, bears, only, guardedLookup}
-use Rattle.walk.proofs.Members.{Given, given}
-use Rattle.strict.specs.Strict.{limit, Accepted, verdict, accepted}
+use Rattle.walk.specs.Walk.{Entry, end, guardedListing}
+use Rattle.walk.specs.Lookup.{refused, gives, bears, only, guardedLookup}
+use Rattle.walk.proofs.Members.{given}
+use Rattle.strict.specs.Strict.{Accepted}
 use Rattle.strict.specs.Slots.{hit, Spoilt, Kept}
 use Rattle.strict.proofs.Accepting.{spoiling, walks-agree}
 use Rattle.strict.proofs.Bearing.{lone}
 use Rattle.terms.specs.Terms.{bytesOf, refusedBy}
 use Rattle.terms.specs.declared.Region.{Region}
-use Rattle.terms.proofs.Regions.{bytes-fit}
 use Rattle.master.specs.Master.{master}
 use Rattle.master.specs.declared.Master.the-variants.{Read}
-use Rattle.master.proofs.Facts.{Known, known, same-region}
+use Rattle.master.proofs.Facts.{known, same-region}
 use Rattle.region.specs.Region.{takenAt, foundAt, contentFound}
-use Rattle.region.specs.declared.Found.{Found}
 use Rattle.region.specs.declared.Found.the-variants.{At, Refused}
 use Rattle.cbfs.specs.Cbfs.{guardedFind, guardedContent}
 use Rattle.claims.specs.Demand3.{placed, guardedEntries, inSlots, fromSlots, Spoiled, rivalled, Demand3}

@@ -1,11 +1,10 @@
 -- What is proved of whole images, over the definitions that the contracts of the public calls cite.
 use Prim.Native.Nat.{ℕ, _*_, _%_, _^_, _≤_, _<_}
 use native.Mathlib.Omega.{arith}
-use mathlib.Core.Path.{_≡_, refl, sym, ap, subst, _∙_}
+use mathlib.Core.Path.{_≡_, refl, sym, ap, subst}
 use mathlib.Core.List.{List, map, List·Memᴰ}
 use mathlib.Core.Logic.{_↔_}
 use mathlib.Core.Bool.{Bool, true, false}
-use Rattle.component.specs.Component.{Component}
 use Rattle.walk.specs.Walk.{Entry, placesBelow, pickOf, listing, plainListing, guardedListing}
 use Rattle.walk.specs.Lookup.{Answer, refused, gives, bears, plainLookup}
 use Rattle.walk.specs.declared.Taken.{Taken}
@@ -18,7 +17,7 @@ use Rattle.master.specs.Master.{master}
 use Rattle.master.specs.declared.Master.{Master}
 use Rattle.master.specs.declared.Master.the-variants.{Read}
 use Rattle.master.proofs.Facts.{Known, known, align-power}
-use Rattle.region.specs.Region.{stepIn, stepFits, takenAt, foundAt, contentFound, Walked}
+use Rattle.region.specs.Region.{stepIn, stepFits, takenAt, foundAt, Walked}
 use Rattle.region.specs.declared.Found.the-variants.{At}
 use Rattle.region.specs.declared.Found.the-variants.{Refused as FoundRefused}
 use Rattle.region.proofs.Listing as Listing

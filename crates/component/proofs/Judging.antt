@@ -1,15 +1,14 @@
 -- Laws of the judge: how it is reached test by test, and the three by which the walks know it. What it accepts begins with the magic; its
 -- span is positive and lies in the part; and it answers the same on any part that agrees on the span.
-use Prim.Native.Nat.{ℕ, zero, suc, _+_, _-_, _%_, _≤_, _<_, min}
+use Prim.Native.Nat.{ℕ, _+_, _-_, _%_, _≤_, _<_, min}
 use native.Mathlib.Nat.{min-le-left}
 use native.Mathlib.Omega.{arith}
 use mathlib.Core.Path.{_≡_, refl, sym, ap, subst, _∙_}
-use mathlib.Core.List.{List, [], _∷_}
-use mathlib.Core.Bool.{Bool, true, false, cond, true≢false, false≢true}
+use mathlib.Core.List.{List}
+use mathlib.Core.Bool.{Bool, true, false, cond}
 use mathlib.Core.Option.{Option, some, none, Option·some-injective, Option·none-ne-some}
 use lib.ListN.{length, getD, take, drop, length-take, length-drop}
 use lib.Seq.{take-take, getD-take, getD-drop, ext-getD}
-use lib.Dec.{leb, eqb}
 use borrow.Author.Tests.{leb-true, le-leb, eqb-true}
 use Rattle.number.specs.Number.{be}
 use Rattle.number.proofs.Digits.{be-same}
@@ -20,7 +19,6 @@ use Rattle.number.specs.Tests.{every}
 use Rattle.component.specs.Names.{beforeZero, nameTests, nameFits, fieldTests, fieldFits, nameLength}
 use Rattle.component.specs.Component.{magic, startsWithMagic, lenOf, kindOf, offsetOf, nameField, Component, span, componentOf, headerTests, wellFormed, fields, judge, judged, headerOf, nameOf, contentOf}
 use Rattle.component.specs.declared.Header.{Header}
-use Rattle.component.specs.declared.Judged.{Judged}
 use Rattle.component.specs.declared.Judged.the-variants.{WellFormed, IllFormed}
 use Rattle.number.proofs.Passing.{fails, passes}
 use Rattle.component.proofs.Scan.{before-take, before-le}
@@ -88,9 +86,6 @@ judge-fields s e = rw e
 pub judge-quiet : (s : List ℕ) → startsWithMagic s ≡ false → judge s ≡ none
 unfolding judge
 judge-quiet s e = rw e
-
-pub judge-short : (s : List ℕ) → length s < 8 → judge s ≡ none
-judge-short s h = judge-quiet s (short-no-magic s h)
 
 -- What a judged part is, test by test.
 pub record Formed (s : List ℕ) (c : Component) : Type 0 where

@@ -2,7 +2,7 @@
 use Prim.Native.Nat.{ℕ}
 use mathlib.Core.Path.{_≡_, refl}
 use mathlib.Core.List.{List, [], _∷_, _++_}
-use mathlib.Core.Bool.{Bool, true, false}
+use mathlib.Core.Bool.{true, false}
 use mathlib.Core.Option.{some, none}
 use lib.ListN.{replicate}
 use Rattle.number.specs.Number.{beBytes}
@@ -10,7 +10,7 @@ use Rattle.number.specs.Bytes.{eqBytes, splice}
 use Rattle.component.specs.Component.{magic, startsWithMagic}
 use Rattle.walk.specs.Lists.{any}
 use Rattle.walk.specs.Walk.{Entry, placesBelow, places, carries, buried}
-use Rattle.edit.specs.Edit.{Run, holds, fieldSize, headerBytes, fieldBytes, spanBytes, buries, lowest, filled, Slot, clearing, write, done, carriedOut}
+use Rattle.edit.specs.Edit.{Run, holds, fieldSize, headerBytes, fieldBytes, spanBytes, buries, lowest, filled, clearing, write, done, carriedOut}
 
 abbrev bytes : ℕ → ℕ → Run
 bytes n m = record { from = n; to = m }

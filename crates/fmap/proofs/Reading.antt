@@ -10,7 +10,7 @@ use borrow.Author.Tests.{leb-true, lt-leb, le-leb, eq-eqb, ne-eqb}
 use Rattle.number.proofs.Passing.{passes}
 use Rattle.terms.specs.Refusals.{Test, test, firstFailed}
 use Rattle.fmap.specs.Lists.{any, noTwo}
-use Rattle.fmap.specs.Signatures.{signatures, found, numberOf}
+use Rattle.fmap.specs.Signatures.{signatures, found}
 use Rattle.fmap.specs.Fmap.{minor, base, nareas, mapEnd, areasAt, areasOf, sameName, cross, holdsMap, countFits, signatureTests, headerTests, areaTests, turnTests, wholeTests, testsAt, tests, unused, padded, mapOf, refused, answer, mapAt, fmapBy, fmap}
 use Rattle.terms.specs.Refusals.{lengthFits}
 use Rattle.fmap.specs.declared.Area.{Area}
@@ -122,13 +122,6 @@ module _ (s : List ℕ) (at : ℕ) {n : ℕ} (c : n ≡ nareas s at) {x : Bool} 
       pub together : w ≡ true → 0 ≡ firstFailed (wholeTests s at (areasOf s at))
       unfolding wholeTests
       together j = rw (← c, ← p, h, ← q, k, ← r, j)
-
--- What is found is refused by its number.
-pub found-number : (ps : List ℕ) → numberOf (found ps) ≡ firstFailed (signatureTests ps)
-unfolding signatureTests
-found-number [] = refl
-found-number (p ∷ []) = refl
-found-number (p ∷ q ∷ ps) = rw (le-leb 1 (length (p ∷ q ∷ ps)) (omega arith), lt-leb (length (p ∷ q ∷ ps)) 1 (omega arith))
 
 -- What is answered for an image: its length, its signatures, and the map at the only one.
 

@@ -42,10 +42,6 @@ segments-snoc s o i =
     let f : 0 + 28 * i ≡ 28 * i = omega arith in
     rw (e, segments-last s o i 0, f)
 
-segments-none : (s : List ℕ) (o p : ℕ) → segmentsAt s o 0 p ≡ []
-unfolding segmentsAt
-segments-none s o p = refl
-
 -- No test of a record refuses by 0.
 pub type-numbered : (at l : ℕ) (x : Segment) → numbered (typeTests at l x) ≡ true
 unfolding typeTests loadTests bssTests paramsTests

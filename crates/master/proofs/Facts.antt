@@ -1,18 +1,14 @@
 -- What an image that is not refused by 1 to 8 is known to have.
-use Prim.Native.Nat.{ℕ, zero, suc, _+_, _-_, _^_, _%_, _≤_, _<_}
+use Prim.Native.Nat.{ℕ, _+_, _-_, _^_, _%_, _≤_}
 use native.Mathlib.Omega.{arith}
-use native.Mathlib.Decide.{decLe, decLt}
-use native.Mathlib.Nat.{pow-le-pow-right, pow-suc}
-use mathlib.Core.Path.{_≡_, refl, sym, ap, subst, _∙_}
-use mathlib.Core.Bool.{Bool, true, false, cond, false≢true}
+use mathlib.Core.Path.{_≡_, refl, subst}
+use mathlib.Core.Bool.{Bool, true, false, cond}
 use mathlib.Core.List.{List, [], _∷_}
-use lib.ListN.{length, getD, drop}
+use lib.ListN.{length, getD}
 use lib.Dec.{leb, eqb}
 use lib.Count.{ones}
-use borrow.Author.Tests.{leb-true, eqb-true, eqb-false}
+use borrow.Author.Tests.{leb-true, eqb-true}
 use Rattle.terms.specs.Terms.{refusedBy}
-use Rattle.number.specs.Number.{be, le}
-use Rattle.number.specs.Tests.{every}
 use Rattle.number.proofs.Digits.{be-same, le-same}
 use Rattle.number.proofs.Passing.{passes}
 use Rattle.terms.specs.Refusals.{test, lengthFits}

@@ -1,7 +1,7 @@
 -- The master header of an image i (document 01, "Master header", and refusals 1 to 8). L is the length of i.
 use Prim.Native.Nat.{ℕ, _+_, _-_, _^_, _%_}
 use mathlib.Core.List.{List, [], _∷_}
-use mathlib.Core.Bool.{Bool, true, false, cond}
+use mathlib.Core.Bool.{Bool, cond}
 use lib.ListN.{length}
 use lib.Dec.{leb, eqb}
 use lib.Count.{ones}

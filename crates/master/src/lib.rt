@@ -4,8 +4,6 @@ use terms::Region;
 ghost use mathlib.Core.Path.{_≡_};
 ghost use Prim.Native.Nat.{_+_, _-_, _≤_};
 ghost use lib.ListN.{length};
-ghost use lib.Dec.{eqb};
-ghost use Rattle.number.specs.Number.{be, le};
 ghost use Rattle.master.specs.Master.{address as addressOf, headerAt, field as fieldOf, addressFits, bootblockFits, alignFits, offsetFits, romsize, bootblocksize, refusal as refusalOf, master};
 
 pub enum Master {

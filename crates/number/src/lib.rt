@@ -1,11 +1,11 @@
 // Numbers in bytes, read and written; bytes copied, filled and compared.
 // Every function takes any bytes and any numbers: a byte past the end reads as 0, and a write that does not fit writes nothing.
 ghost use mathlib.Core.Path.{_≡_};
-ghost use Prim.Native.Nat.{_+_, _%_, _≤_};
+ghost use Prim.Native.Nat.{_+_, _%_};
 ghost use mathlib.Core.List.{[], _∷_};
 ghost use lib.ListN.{length, drop, getD, replicate};
 ghost use Rattle.number.specs.Number.{be, le, beBytes, leBytes};
-ghost use Rattle.number.specs.Bytes.{partOf, eqBytes, fits, splice, written};
+ghost use Rattle.number.specs.Bytes.{partOf, eqBytes, fits, written};
 
 // The byte at `at`.
 pub fn byte(s: &[u8], at: usize) -> u8

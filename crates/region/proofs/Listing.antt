@@ -1,17 +1,15 @@
 -- A listing of a region is the steps over the image from the region's start to none left, for either walk: w tells the guarded one.
-use Prim.Native.Nat.{ℕ, zero, suc, _+_, _*_, _-_, _%_, _≤_, _<_}
+use Prim.Native.Nat.{ℕ, zero, suc, _+_, _-_, _%_, _≤_, _<_}
 use native.Mathlib.Nat.{mul-mod-left, add-sub-cancel-left, add-mod, mod-mod, zero-add, add-zero}
 use native.Mathlib.Omega.{arith}
 use native.Mathlib.Decide.{decLt}
-use mathlib.Core.Path.{_≡_, refl, sym, ap, subst, _∙_}
-use mathlib.Core.List.{List, [], _∷_, map}
+use mathlib.Core.Path.{_≡_, refl, sym, ap, _∙_}
+use mathlib.Core.List.{List, map}
 use mathlib.Core.Logic.{_⊎_, inl, inr, _↔_}
-use mathlib.Core.Bool.{Bool, true, false}
+use mathlib.Core.Bool.{Bool, true}
 use mathlib.Core.Option.{Option, some, none}
-use lib.ListN.{length, take, drop, length-take, length-drop}
-use lib.Dec.{eqb}
+use lib.ListN.{length, drop, length-take, length-drop}
 use borrow.Author.Tests.{eq-eqb, eqb-true}
-use Rattle.component.specs.Component.{Component}
 use Rattle.walk.specs.Walk.{Entry, pickOf, step, next, listingFrom, listing, end}
 use Rattle.walk.proofs.Places.{Place}
 use Rattle.walk.proofs.Steps.{rest-none, rest-some, onward-stop}
@@ -22,7 +20,6 @@ use Rattle.terms.specs.Terms.{bytesOf}
 use Rattle.terms.specs.declared.Region.{Region}
 use Rattle.terms.proofs.Regions.{bytes-fit}
 use Rattle.region.specs.Region.{stepFits, takenAt, stepped, stepBy, Walked, ended, went}
-use Rattle.region.specs.declared.Step.the-variants.{Took, NoneLeft}
 use Rattle.region.proofs.Numbers.{fit-end, fit-place, fit-from}
 
 -- Places counted from a start that is a multiple of the alignment are the multiples of the alignment.

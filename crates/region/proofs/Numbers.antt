@@ -1,5 +1,5 @@
 -- Laws of the numbers to step from.
-use Prim.Native.Nat.{ℕ, _+_, _-_, _%_, _≤_, _<_}
+use Prim.Native.Nat.{ℕ, _-_, _%_, _≤_, _<_}
 use native.Mathlib.Nat.{mod-zero}
 use native.Mathlib.Omega.{arith}
 use mathlib.Core.Path.{_≡_, refl, sym, _∙_}
@@ -7,7 +7,6 @@ use mathlib.Core.Bool.{Bool, true, false, _||_}
 use mathlib.Core.List.{List, [], _∷_}
 use lib.Dec.{leb, eqb}
 use borrow.Author.Tests.{leb-true, le-leb, lt-leb, eq-eqb, ne-eqb, eqb-true, eqb-false}
-use Rattle.number.specs.Tests.{every}
 use Rattle.number.proofs.Passing.{fails, passes, every-last}
 use Rattle.terms.specs.declared.Region.{Region}
 use Rattle.region.specs.Region.{stepFits}

@@ -2,30 +2,28 @@
 use Prim.Native.Nat.{ℕ, _+_, _-_, _≤_, _<_}
 use native.Mathlib.Omega.{arith}
 use mathlib.Core.Path.{_≡_, refl, sym, ap, subst, _∙_}
-use mathlib.Core.Bool.{Bool, true, false, cond}
+use mathlib.Core.Bool.{Bool, true, false}
 use mathlib.Core.List.{List, [], List·Memᴰ}
 use mathlib.Core.Option.{Option, some, none}
 use lib.ListN.{length, drop}
 use Rattle.number.specs.Bytes.{partOf}
-use Rattle.component.specs.Component.{Component, judge, judged, headerOf, contentOf}
-use Rattle.component.specs.declared.Header.{Header}
+use Rattle.component.specs.Component.{Component, judged, headerOf, contentOf}
 use Rattle.component.proofs.Judging.{part-content}
 use Rattle.walk.specs.Walk.{Entry, pickOf, step, next, listing, takenOf, told}
 use Rattle.walk.specs.Lookup.{Answer, refused, gives, found}
 use Rattle.walk.specs.declared.Taken.{Taken}
 use Rattle.walk.specs.declared.Step.the-variants.{Took as WalkTook, NoneLeft as WalkNoneLeft}
 use Rattle.walk.specs.declared.Found.the-variants.{At as WalkAt, Refused as WalkRefused}
-use Rattle.walk.proofs.Lookups.{Stands, stands, told-some, told-none}
-use Rattle.walk.proofs.Members.{Given, given, next-within, found-some, found-none}
+use Rattle.walk.proofs.Lookups.{stands, told-some}
+use Rattle.walk.proofs.Members.{given, next-within, found-some}
 use Rattle.terms.specs.Terms.{bytesOf, refusedBy}
 use Rattle.terms.specs.declared.Region.{Region}
 use Rattle.terms.specs.declared.Refusal.{Refusal}
 use Rattle.terms.proofs.Regions.{bytes-inside}
-use Rattle.region.specs.Region.{stepFits, takenAt, stepped, stepBy, foundAt, contentFound}
+use Rattle.region.specs.Region.{stepFits, stepped, stepBy, foundAt, contentFound}
 use Rattle.region.specs.declared.Step.{Step}
 use Rattle.region.specs.declared.Step.the-variants.{Took, NoneLeft}
 use Rattle.region.specs.declared.Step.the-variants.{Refused as StepRefused}
-use Rattle.region.specs.declared.Found.{Found}
 use Rattle.region.specs.declared.Found.the-variants.{At}
 use Rattle.region.specs.declared.Found.the-variants.{Refused as FoundRefused}
 

@@ -5,7 +5,6 @@ use terms::Region;
 use walk::Taken;
 ghost use mathlib.Core.Path.{_≡_};
 ghost use Prim.Native.Nat.{_+_, _≤_};
-ghost use Rattle.terms.specs.Terms.{refusedBy};
 ghost use Rattle.region.specs.Region.{stepFits, stepIn, findIn, contentIn, fromPlace, nameAt, contentAt};
 ghost use Rattle.number.specs.Bytes.{partOf};
 ghost use lib.ListN.{drop};

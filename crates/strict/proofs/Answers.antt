@@ -2,14 +2,14 @@
 use Prim.Native.Nat.{ℕ, zero, suc, _+_, _≤_, _<_}
 use native.Mathlib.Nat.{le-of-suc-le-suc}
 use native.Mathlib.Omega.{arith}
-use mathlib.Core.Path.{_≡_, refl, sym, ap, subst, _∙_}
-use mathlib.Core.Bool.{Bool, true, false}
+use mathlib.Core.Path.{_≡_, refl, sym, ap, _∙_}
+use mathlib.Core.Bool.{true, false}
 use mathlib.Core.List.{List, [], _∷_, _++_, map, List·Memᴰ, List·Memᴰ·head, List·Memᴰ·tail}
-use lib.ListN.{length, take, drop, getD, replicate, length-map, length-append, length-replicate, List·getD-append}
+use lib.ListN.{length, take, drop, getD, length-map, length-append, length-replicate, List·getD-append}
 use Rattle.walk.specs.Walk.{Entry, plainListing}
 use Rattle.walk.proofs.Members.{given}
-use Rattle.strict.specs.Strict.{limit, strays, toldApart, Verdict, refused, accepted, placesOf, verdict, padded}
-use Rattle.strict.specs.Directory.{refusal, directory, fill, Passed, apartAt}
+use Rattle.strict.specs.Strict.{limit, toldApart, placesOf, verdict, padded}
+use Rattle.strict.specs.Directory.{refusal, directory, Passed, apartAt}
 use Rattle.strict.specs.declared.Directory.{Directory}
 use Rattle.strict.specs.declared.Pass.{Pass}
 use Rattle.strict.proofs.Verdicts.{refused-13, refused-11, accepted-exactly}

@@ -4,13 +4,13 @@ use native.Mathlib.Nat.{sub-zero, add-zero}
 use native.Mathlib.Numerals.{add-one}
 use native.Mathlib.Omega.{arith}
 use mathlib.Core.Path.{_≡_, refl, sym, ap, _∙_}
-use mathlib.Core.List.{List, [], _∷_, _++_, map, append-assoc, append-nil, List·Memᴰ, List·Memᴰ·head, List·Memᴰ·tail}
-use mathlib.Core.Bool.{Bool, true, false, cond, not, _&&_, _||_}
-use mathlib.Core.Option.{Option, some, none}
-use lib.ListN.{length, take, drop, getD, set, replicate, length-map, length-append, length-replicate, length-take, length-set, drop-of-length-le}
-use lib.Seq.{take-all, take-suc, drop-cons, set-at, getD-at, length-take-le, take-append-seam, drop-append-seam}
+use mathlib.Core.List.{List, [], _∷_, _++_, map, append-assoc, List·Memᴰ, List·Memᴰ·head, List·Memᴰ·tail}
+use mathlib.Core.Bool.{Bool, true, false}
+use mathlib.Core.Option.{some}
+use lib.ListN.{length, take, drop, getD, set, replicate, length-map, length-append}
+use lib.Seq.{take-suc, drop-cons, set-at, getD-at, length-take-le, take-append-seam, drop-append-seam}
 use Rattle.number.specs.Bytes.{eqBytes}
-use Rattle.component.specs.Component.{Component, judge, nameOf}
+use Rattle.component.specs.Component.{judge, nameOf}
 use Rattle.walk.specs.Lists.{any}
 use Rattle.walk.specs.Walk.{Entry, plainListing}
 use Rattle.walk.specs.Lookup.{bears}

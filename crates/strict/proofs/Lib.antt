@@ -6,7 +6,6 @@ pub mod Slots
 pub mod Accepting
 pub mod Reasons
 pub mod Verdicts
-pub mod Image
 pub mod Strays
 pub mod Checking
 pub mod Directories

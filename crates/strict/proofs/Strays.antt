@@ -175,10 +175,6 @@ from-end r a n h = go (decLt 0 a)
 pub first-hunt : (r : List ℕ) (a n : ℕ) → firstStray r a n ≡ firstStray r a (nextMagic r a n (length r))
 first-hunt r a n = ap lowest (from-hunt r a n)
 
-pub first-end : (r : List ℕ) (a n : ℕ) → nextMagic r a n (length r) ≡ length r → firstStray r a n ≡ none
-unfolding lowest
-first-end r a n e = ap lowest (from-hunt r a n ∙ from-end r a (nextMagic r a n (length r)) (omega (arith, e)))
-
 -- The hunt from a place ends at a place.
 pub next-place : (r : List ℕ) (a : ℕ) → 0 < a → (n b : ℕ) → Place a n → nextMagic r a n b < b → Place a (nextMagic r a n b)
 next-place r a pos n b = by-places r a pos b (λ n. Place a n → nextMagic r a n b < b → Place a (nextMagic r a n b))

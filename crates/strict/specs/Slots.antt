@@ -1,9 +1,9 @@
 -- Slots, and what is kept where some are spoiled (the order, demand 3), over a region's bytes r at the alignment a.
-use Prim.Native.Nat.{ℕ, _-_, _≤_, _<_}
+use Prim.Native.Nat.{ℕ, _≤_, _<_}
 use mathlib.Core.Path.{_≡_}
 use mathlib.Core.List.{List, [], _∷_, List·Memᴰ}
 use mathlib.Core.Bool.{Bool, true, false, cond, not, _&&_, _||_}
-use lib.ListN.{length, getD, take, drop}
+use lib.ListN.{length, getD}
 use lib.Dec.{ltb, leb}
 use Rattle.walk.specs.Lists.{any, keep}
 use Rattle.walk.specs.Walk.{Entry, end, guardedListing}
@@ -46,18 +46,3 @@ pub record Kept (set : ℕ → Bool) (r : List ℕ) (a : ℕ) (r′ : List ℕ) 
   -- from a spoiled slot bears the name too. Otherwise it refuses with 11. It never gives another."
   pub lookup : (t : Entry) → List·Memᴰ t (guardedListing r a) → spoiled set r a t ≡ false
       → guardedLookup r′ a (t .component .name) ≡ cond (any (bears (t .component .name)) (keep (spoiled set r a) (guardedListing r′ a))) (refused 11) (gives t)
-
--- The same over an image whose region runs from lo up to hi.
-
--- The region's bytes.
-unfoldable pub regionOf : List ℕ → ℕ → ℕ → List ℕ
-regionOf img lo hi = take (hi - lo) (drop lo img)
-
--- The byte j of the image lies in a slot of the set.
-unfoldable pub slotted : (ℕ → Bool) → List ℕ → ℕ → ℕ → ℕ → ℕ → Bool
-slotted set img lo hi a j = leb lo j && ltb j hi && hit set (regionOf img lo hi) a (j - lo)
-
--- Slots of the set are spoiled, and every other byte of the image stays.
-pub record SpoiltImage (set : ℕ → Bool) (img : List ℕ) (lo hi a : ℕ) (img′ : List ℕ) : Type 0 where
-  pub alike : length img′ ≡ length img
-  pub rest : (j : ℕ) → slotted set img lo hi a j ≡ false → getD img′ j 0 ≡ getD img j 0

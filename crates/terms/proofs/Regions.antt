@@ -1,11 +1,10 @@
 -- Laws of a region's bytes.
-use Prim.Native.Nat.{ℕ, zero, suc, _+_, _-_, _≤_, _<_}
+use Prim.Native.Nat.{ℕ, _+_, _-_, _≤_, _<_}
 use native.Mathlib.Omega.{arith}
-use mathlib.Core.Path.{_≡_, refl, sym, ap, _∙_}
+use mathlib.Core.Path.{_≡_, refl, sym}
 use mathlib.Core.Bool.{Bool, true, false, cond}
 use mathlib.Core.List.{List, []}
 use lib.ListN.{length, take, drop, length-take, length-drop}
-use lib.Dec.{leb}
 use borrow.Author.Tests.{leb-true}
 use Rattle.number.specs.Bytes.{fits, partOf}
 use Rattle.number.proofs.Splice.{part-in}

@@ -8,7 +8,7 @@ use mathlib.Core.Bool.{Bool, true, false, cond, true≢false}
 use Rattle.number.proofs.SameBytes.{eq-true, eq-refl}
 use Rattle.walk.specs.Lists.{keep}
 use Rattle.walk.specs.Walk.{Entry}
-use Rattle.walk.specs.Lookup.{Answer, refused, gives, bears, foremost}
+use Rattle.walk.specs.Lookup.{refused, gives, bears, foremost}
 
 -- To bear a name is to have it, byte for byte.
 

@@ -1,13 +1,12 @@
 -- Laws of the hunt for the next place with the magic.
-use Prim.Native.Nat.{ℕ, zero, suc, _+_, _*_, _-_, _/_, _≤_, _<_, min}
+use Prim.Native.Nat.{ℕ, zero, suc, _+_, _*_, _-_, _≤_, _<_, min}
 use native.Mathlib.Nat.{div-zero, sub-zero, zero-add, mul-le-mul-right}
 use native.Mathlib.Omega.{arith}
-use native.Mathlib.Decide.{decLe, decLt}
-use mathlib.Core.Path.{_≡_, refl, sym, ap, _∙_}
-use mathlib.Core.List.{List, [], _∷_}
+use native.Mathlib.Decide.{decLt}
+use mathlib.Core.Path.{_≡_, refl, sym, _∙_}
+use mathlib.Core.List.{List}
 use mathlib.Core.Bool.{Bool, true, false, cond, _||_, true≢false}
-use lib.ListN.{length, take, drop, length-drop, length-take}
-use lib.Seq.{take-take}
+use lib.ListN.{length, take, drop, length-drop}
 use lib.Dec.{ltb}
 use borrow.Author.Tests.{lt-ltb, le-ltb}
 use Rattle.component.specs.Component.{startsWithMagic}
@@ -15,7 +14,7 @@ use Rattle.component.proofs.Judging.{short-no-magic, magic-eight}
 use Rattle.number.proofs.Splice.{rest}
 use Rattle.walk.specs.Lists.{any}
 use Rattle.walk.specs.Walk.{placesBelow, places, carries, seek, nextMagic, buried}
-use Rattle.walk.proofs.Places.{below-ge, below-lt, below-next, below-end, below-zero}
+use Rattle.walk.proofs.Places.{below-lt, below-next, below-end, below-zero}
 
 -- Fewer than eight bytes from the end no place carries the magic.
 pub carries-end : (r : List ℕ) (p : ℕ) → length r < p + 8 → carries r p ≡ false

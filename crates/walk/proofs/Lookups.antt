@@ -6,13 +6,13 @@ use mathlib.Core.Path.{_≡_, refl, sym, ap, subst, _∙_}
 use mathlib.Core.List.{List, [], _∷_}
 use mathlib.Core.Bool.{Bool, true, false, cond}
 use mathlib.Core.Option.{Option, some, none, Option·none-ne-some, Option·some-injective}
-use lib.ListN.{length, drop, length-drop}
+use lib.ListN.{length, drop}
 use Rattle.number.specs.Bytes.{partOf, eqBytes}
 use Rattle.number.proofs.Splice.{part-in}
-use Rattle.component.specs.Component.{Component, span, judge}
+use Rattle.component.specs.Component.{Component, judge}
 use Rattle.component.proofs.Judging.{judge-fits, judge-name}
 use Rattle.walk.specs.Lists.{keep}
-use Rattle.walk.specs.Walk.{Entry, Pick, end, plain, guarded, pickOf, step, onward, next, listingFrom, takenOf, told}
+use Rattle.walk.specs.Walk.{Entry, end, plain, pickOf, step, next, takenOf, told}
 use Rattle.walk.specs.Lookup.{bears, bearersFrom, firstOf, foremost, only, found}
 use Rattle.walk.specs.declared.Taken.{Taken}
 use Rattle.walk.specs.declared.Step.the-variants.{Took, NoneLeft}

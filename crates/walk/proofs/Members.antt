@@ -1,17 +1,17 @@
 -- Members of listings and of what is kept of them.
-use Prim.Native.Nat.{ℕ, _≤_, _<_, min}
+use Prim.Native.Nat.{ℕ, _≤_, _<_}
 use native.Mathlib.Nat.{min-le-right}
 use native.Mathlib.Omega.{arith}
 use native.Mathlib.Decide.{decLt}
-use mathlib.Core.Path.{_≡_, refl, sym, ap, subst, _∙_}
+use mathlib.Core.Path.{_≡_, refl, subst}
 use mathlib.Core.List.{List, [], _∷_, List·Memᴰ, List·Memᴰ·head, List·Memᴰ·tail, List·Memᴰ·not-nil, List·Memᴰ·cases-cons}
 use mathlib.Core.Logic.{_⊎_, inl, inr}
-use mathlib.Core.Bool.{Bool, true, false, cond, true≢false, false≢true}
-use mathlib.Core.Option.{Option, some, none}
+use mathlib.Core.Bool.{Bool, true, false, cond}
+use mathlib.Core.Option.{some}
 use lib.ListN.{length, drop}
-use Rattle.component.specs.Component.{Component, span, judge}
+use Rattle.component.specs.Component.{judge}
 use Rattle.walk.specs.Lists.{keep}
-use Rattle.walk.specs.Walk.{Entry, placesBelow, end, onward, next, pickOf, listing, plainListing, guardedListing, takenOf}
+use Rattle.walk.specs.Walk.{Entry, end, onward, next, pickOf, listing, plainListing, guardedListing, takenOf}
 use Rattle.walk.specs.Lookup.{Answer, refused, gives, bears, foremost, only, lookupOf, found}
 use Rattle.walk.specs.declared.Taken.{Taken}
 use Rattle.walk.specs.declared.Found.the-variants.{At, Refused}

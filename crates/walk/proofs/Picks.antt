@@ -1,18 +1,16 @@
 -- What the plain and the guarded walk take at a place, and the guarded listing.
-use Prim.Native.Nat.{ℕ, zero, suc, _+_, _*_, _-_, _≤_, _<_, min}
+use Prim.Native.Nat.{ℕ, suc, _+_, _*_, _-_, _≤_, _<_, min}
 use native.Mathlib.Nat.{sub-zero, lt-of-mul-lt-mul-right, mul-le-mul-right}
 use native.Mathlib.Omega.{arith}
-use native.Mathlib.Decide.{decLe, decLt}
-use mathlib.Core.Path.{_≡_, refl, sym, ap, subst, _∙_}
-use mathlib.Core.List.{List, [], _∷_, List·Memᴰ, Memᴰ·cast}
-use mathlib.Core.Bool.{Bool, true, false, cond, _&&_, true≢false, false≢true}
-use mathlib.Core.Option.{Option, some, none, Option·some-injective, Option·none-ne-some, Option·some-ne-none}
+use mathlib.Core.Path.{_≡_, refl, sym, ap, _∙_}
+use mathlib.Core.List.{List, Memᴰ·cast}
+use mathlib.Core.Bool.{Bool, true, false, cond, true≢false}
+use mathlib.Core.Option.{Option, some, none, Option·some-injective, Option·none-ne-some}
 use lib.ListN.{length, getD, take, drop, length-take, length-drop}
-use Rattle.walk.specs.Lists.{any}
 use Rattle.component.specs.Component.{Component, span, judge, startsWithMagic, magic}
 use Rattle.component.proofs.Judging.{judge-fits, judge-magic, judge-quiet, window}
 use Rattle.number.proofs.SameBytes.{eq-true}
-use Rattle.walk.specs.Walk.{Entry, Pick, end, placesBelow, places, carries, buried, plain, unless, guarded, listing, picked, allPlaces, allFrom}
+use Rattle.walk.specs.Walk.{placesBelow, places, carries, buried, plain, unless, guarded, listing, picked, allPlaces, allFrom}
 use Rattle.walk.proofs.Places.{Place, below-ge, below-lt, gap, mem-places, places-mem, any-false, none-any}
 use Rattle.walk.proofs.Steps.{Fits, Exclusive, listing-all}
 

@@ -1,20 +1,19 @@
 -- A step by way of the hunt, for either walk: g tells the guarded one.
-use Prim.Native.Nat.{ℕ, zero, suc, _+_, _*_, _-_, _/_, _%_, _≤_, _<_, min}
+use Prim.Native.Nat.{ℕ, suc, _+_, _*_, _-_, _/_, _%_, _≤_, _<_, min}
 use native.Mathlib.Nat.{div-add-mod', mod-lt, min-eq-right}
 use native.Mathlib.Omega.{arith}
 use native.Mathlib.Decide.{decLt}
 use mathlib.Core.Path.{_≡_, refl, sym, ap, subst, _∙_}
 use mathlib.Core.List.{List}
 use mathlib.Core.Bool.{Bool, true, false, cond}
-use mathlib.Core.Option.{Option, some, none}
+use mathlib.Core.Option.{some, none}
 use lib.ListN.{length, drop}
-use lib.Dec.{ltb}
 use borrow.Author.Tests.{lt-ltb, le-ltb}
 use Rattle.component.specs.Component.{Component, span, judge, judged, headerOf}
 use Rattle.component.specs.declared.Header.{Header}
-use Rattle.component.specs.declared.Judged.the-variants.{WellFormed, IllFormed}
+use Rattle.component.specs.declared.Judged.the-variants.{WellFormed}
 use Rattle.component.proofs.Judging.{judge-fits, judged-some}
-use Rattle.walk.specs.Walk.{Entry, Pick, placesBelow, carries, nextMagic, buried, plain, unless, guarded, pickOf, first, step, onward, told}
+use Rattle.walk.specs.Walk.{Pick, placesBelow, carries, nextMagic, buried, plain, unless, guarded, pickOf, first, step, onward, told}
 use Rattle.walk.specs.declared.Step.the-variants.{Took}
 use Rattle.walk.proofs.Places.{below-ge, below-unique}
 use Rattle.walk.proofs.Hunting.{no-places, next-none, next-end, next-here, next-not, next-above, next-carries, by-places, buried-hunt}

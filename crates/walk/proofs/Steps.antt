@@ -1,17 +1,16 @@
 -- What a walk's steps come to.
 use Prim.Native.Nat.{ℕ, zero, suc, _+_, _*_, _-_, _≤_, _<_, min}
-use native.Mathlib.Nat.{lt-of-mul-lt-mul-right, min-eq-left, min-eq-right}
+use native.Mathlib.Nat.{lt-of-mul-lt-mul-right}
 use native.Mathlib.Omega.{arith}
 use native.Mathlib.Decide.{decLe, decLt}
 use mathlib.Core.Path.{_≡_, refl, sym, ap, subst, _∙_}
-use mathlib.Core.List.{List, [], _∷_, List·Memᴰ, List·Memᴰ·head, List·Memᴰ·tail, List·Memᴰ·not-nil, List·Memᴰ·cases-cons, Memᴰ·cast}
+use mathlib.Core.List.{List, [], _∷_, List·Memᴰ, List·Memᴰ·not-nil, List·Memᴰ·cases-cons}
 use mathlib.Core.Logic.{_⊎_, inl, inr}
-use mathlib.Core.Bool.{Bool, true, false, cond, _||_, true≢false}
 use mathlib.Core.Option.{Option, some, none, Option·some-injective, Option·none-ne-some, Option·some-ne-none}
 use lib.ListN.{length}
 use Rattle.component.specs.Component.{Component, span}
 use Rattle.walk.specs.Walk.{Entry, Pick, end, placesBelow, places, orElse, first, onward, step, follow, steps, listing, listingFrom, prepend, picked, allFrom}
-use Rattle.walk.proofs.Places.{Place, below-ge, below-lt, below-least, below-next, below-end, below-pos, gap}
+use Rattle.walk.proofs.Places.{Place, below-ge, below-lt, below-next, below-end, below-pos, gap}
 
 -- A listing ends where no component is left.
 pub rest-none : (pick : Pick) (r : List ℕ) (a n : ℕ) → step pick r a n ≡ none → listingFrom pick r a n ≡ []

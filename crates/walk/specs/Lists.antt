@@ -1,6 +1,6 @@
 -- Lists by a Boolean test.
 use mathlib.Core.List.{List, [], _∷_}
-use mathlib.Core.Bool.{Bool, true, false, cond, _||_}
+use mathlib.Core.Bool.{Bool, false, cond, _||_}
 
 module _ {ℓ} {A : Type ℓ} where
   -- The test holds of some element.

@@ -1,5 +1,4 @@
-use mathlib.Core.Path.{sym, ap, _∙_}
-use Rattle.cbfs.specs.Cbfs.{partOn}
+use mathlib.Core.Path.{sym, _∙_}
 use borrow.Author.Needs.{needs}
 use Rattle.cbfs.proofs.lookup_of.Statement.{statement}
 use Rattle.cbfs.proofs.lookup_of.Tie as tie

@@ -1,12 +1,9 @@
 use Prim.Native.Nat.{_-_, _+_, _≤_}
-use mathlib.Core.Path.{_≡_, sym, refl, _∙_}
+use mathlib.Core.Path.{_≡_, sym, _∙_}
 use native.Mathlib.Omega.{arith}
 use native.Mathlib.Nat.{zero-add}
 use lib.ListN.{length, drop}
-use borrow.Author.Tests.{eq-eqb, ne-eqb, le-leb, lt-leb}
-use Rattle.component.specs.Names.{isZero, isPrintable, beforeZero}
-use Rattle.number.specs.Tests.{all}
-use Rattle.number.proofs.Passing.{all-here, all-not, all-done}
+use Rattle.component.specs.Names.{beforeZero}
 use Rattle.component.proofs.Scan.{zero-here, zero-not, zero-done}
 use borrow.Author.Needs.{needs}
 use Rattle.component.proofs.before_zero.Statement.{statement}

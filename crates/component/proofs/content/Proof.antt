@@ -1,5 +1,5 @@
 use mathlib.Core.Path.{sym, refl, ap, _∙_}
-use Rattle.component.specs.Component.{judge, judged, contentOf}
+use Rattle.component.specs.Component.{judge, contentOf}
 use Rattle.component.proofs.Judging.{judged-none, part-content}
 use borrow.Author.Needs.{needs}
 use Rattle.component.proofs.content.Statement.{statement}

@@ -1,5 +1,4 @@
-use mathlib.Core.Path.{_≡_, sym, refl, _∙_}
-use mathlib.Core.Bool.{true, false}
+use mathlib.Core.Path.{sym, refl, _∙_}
 use borrow.Author.Tests.{le-leb, lt-leb, eq-eqb, ne-eqb}
 use Rattle.component.specs.Component.{headerTests}
 use Rattle.component.proofs.Judging.{fields-bad, fields-good, length-zero, length-pos}

@@ -1,5 +1,5 @@
 use mathlib.Core.Path.{sym, refl, ap, _∙_}
-use Rattle.component.specs.Component.{judge, judged, nameOf}
+use Rattle.component.specs.Component.{judge, nameOf}
 use Rattle.component.proofs.Judging.{judged-none, part-name}
 use borrow.Author.Needs.{needs}
 use Rattle.component.proofs.name.Statement.{statement}

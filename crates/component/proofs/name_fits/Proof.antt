@@ -1,6 +1,5 @@
-use native.Mathlib.Omega.{arith}
 use Rattle.component.proofs.Scan.{name-bad, name-rest}
-use mathlib.Core.Path.{sym, refl, _∙_}
+use mathlib.Core.Path.{refl, _∙_}
 use borrow.Author.Tests.{lt-leb}
 use Rattle.component.specs.Names.{nameTests}
 use borrow.Author.Needs.{needs}

@@ -1,5 +1,4 @@
-use mathlib.Core.Path.{sym, refl, _∙_}
-use lib.ListN.{take}
+use mathlib.Core.Path.{sym, refl}
 use Rattle.component.specs.Component.{startsWithMagic, magic}
 use Rattle.component.proofs.Judging.{short-no-magic}
 use borrow.Author.Needs.{needs}

@@ -1,5 +1,5 @@
 use Prim.Native.Nat.{ℕ}
-use mathlib.Core.Path.{_≡_, sym}
+use mathlib.Core.Path.{sym}
 use mathlib.Core.Bool.{Bool}
 use mathlib.Core.List.{List, [], _∷_}
 use lib.Dec.{leb, eqb}
@@ -7,7 +7,6 @@ use lib.Count.{ones}
 use borrow.Author.Tests.{le-leb, lt-leb, eq-eqb, ne-eqb}
 use Rattle.number.proofs.Passing.{fails}
 use Rattle.master.specs.Master.{alignFits}
-use borrow.Author.Needs.{needs}
 use Rattle.master.proofs.align_fits.Statement.{statement}
 use Rattle.master.proofs.align_fits.Tie as tie
 

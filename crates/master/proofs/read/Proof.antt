@@ -1,5 +1,4 @@
 use mathlib.Core.Path.{refl}
-use Rattle.master.specs.Master.{regionOf}
 use Rattle.master.proofs.Refusing.{read-refused, read-region}
 use borrow.Author.Needs.{needs}
 use Rattle.master.proofs.read.Statement.{statement}

@@ -1,6 +1,5 @@
 use mathlib.Core.Path.{refl}
 use Rattle.strict.specs.Directory.{noPlaces}
-use borrow.Author.Needs.{needs}
 use Rattle.strict.proofs.astray.Statement.{statement}
 use Rattle.strict.proofs.astray.Tie as tie
 

@@ -1,4 +1,3 @@
-use mathlib.Core.Path.{_∙_}
 use borrow.Author.Needs.{needs}
 use Rattle.walk.proofs.guard.Statement.{statement}
 use Rattle.walk.proofs.guard.Tie as tie

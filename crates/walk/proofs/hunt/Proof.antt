@@ -1,6 +1,5 @@
 use Prim.Native.Nat.{_-_}
 use mathlib.Core.Path.{_≡_, refl, sym, _∙_}
-use lib.ListN.{length}
 use native.Mathlib.Omega.{arith}
 use Rattle.walk.specs.Walk.{nextMagic}
 use Rattle.walk.proofs.Hunting.{carries-eight, next-here, next-not, next-end}

@@ -1,7 +1,5 @@
 use Prim.Native.Nat.{ℕ, _≤_, _<_, _+_}
 use mathlib.Core.Path.{_≡_, refl, sym, _∙_}
-use mathlib.Core.Bool.{Bool, false}
-use lib.ListN.{length}
 use native.Mathlib.Omega.{arith}
 use Rattle.walk.specs.Walk.{carries, nextMagic}
 use Rattle.walk.proofs.Hunting.{carries-end, carries-rest, quiet-past, next-none, next-here, next-not, quiet-end, sooner-found, sooner-none}

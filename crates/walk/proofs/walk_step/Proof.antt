@@ -1,16 +1,13 @@
-use Prim.Native.Nat.{ℕ, _+_, _-_, _≤_, _<_}
+use Prim.Native.Nat.{_+_, _-_, _≤_, _<_}
 use mathlib.Core.Path.{_≡_, refl, sym, ap, _∙_}
-use mathlib.Core.Bool.{Bool, true}
 use native.Mathlib.Omega.{arith}
 use lib.ListN.{length, drop}
 use Rattle.component.specs.Component.{judge, judged}
-use Rattle.component.specs.declared.Header.{Header}
 use Rattle.component.specs.declared.Judged.the-variants.{WellFormed}
 use Rattle.number.proofs.Splice.{rest}
 use Rattle.component.proofs.Judging.{judge-fields, judged-none}
-use Rattle.walk.specs.Walk.{carries, nextMagic, pickOf, told, step as stepOf}
+use Rattle.walk.specs.Walk.{carries, pickOf, told}
 use Rattle.walk.proofs.Hunting.{next-above}
-use Rattle.walk.proofs.Steps.{step-end}
 use Rattle.walk.proofs.Stepping.{Hunted, hunted, hunted-on, ill-formed, header-fits, went, took, step-past, guard-above}
 use borrow.Author.Needs.{needs}
 use Rattle.walk.proofs.walk_step.Statement.{statement}
