@@ -60,29 +60,37 @@ fn field(into: &mut [u8]) -> usize {
     n
 }
 
-// The fields after the operation.
+// In place of the fields where one is cut short or over its limit; nothing after it is read.
+fn cut() -> Case {
+    Case {
+        image: 0,
+        name: 0,
+        content: 0,
+        number: Got {
+            value: 0,
+            whole: false,
+        },
+    }
+}
+
+// The fields after the operation. The number's `whole` says that all of them were there.
 pub(crate) fn fields(image: &mut Bytes, name: &mut Name, content: &mut Bytes) -> Case {
     let i = field(image);
+    if i == CUT {
+        return cut();
+    }
     let k = field(name);
+    if k == CUT {
+        return cut();
+    }
     let c = field(content);
+    if c == CUT {
+        return cut();
+    }
     Case {
         image: i,
         name: k,
         content: c,
         number: number(8),
     }
-}
-
-// Every field was there, within its limit.
-pub(crate) fn whole(c: Case) -> bool {
-    if c.image == CUT {
-        return false;
-    }
-    if c.name == CUT {
-        return false;
-    }
-    if c.content == CUT {
-        return false;
-    }
-    c.number.whole
 }

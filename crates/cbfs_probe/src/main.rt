@@ -391,7 +391,8 @@ fn answered(
     name: &Name,
     content: &Bytes,
 ) -> usize {
-    if !input::whole(c) {
+    let n = c.number;
+    if !n.whole {
         return 0;
     }
     let asked = number::part(name, 0, c.name);
@@ -405,13 +406,7 @@ fn answered(
             number::part(content, 0, c.content),
         );
     }
-    answer(
-        page,
-        op,
-        number::part(image, 0, c.image),
-        asked,
-        c.number.value,
-    )
+    answer(page, op, number::part(image, 0, c.image), asked, n.value)
 }
 
 // Reads a case and answers it, and says whether the run goes on. An end of the input in place of an operation just ends it.
