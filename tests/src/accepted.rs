@@ -6,9 +6,12 @@ use crate::master;
 use crate::rng::Rng;
 use crate::strict;
 
+/// Images tried for an accepted one. A few are enough, unless the reference has a fault; then the run still ends.
+const TRIES: usize = 1_000;
+
 /// A random accepted image of at most so many bytes, with some components.
-pub fn accepted(rng: &mut Rng, most: usize) -> Vec<u8> {
-    loop {
+pub fn accepted(rng: &mut Rng, most: usize) -> Option<Vec<u8>> {
+    for _ in 0..TRIES {
         let frame = random_frame(rng);
         if frame.length > most {
             continue;
@@ -16,10 +19,11 @@ pub fn accepted(rng: &mut Rng, most: usize) -> Vec<u8> {
         let image = filled(rng, &frame);
         if let Ok(region) = master::region(&image) {
             if strict::check(&image, region).is_ok() {
-                return image;
+                return Some(image);
             }
         }
     }
+    None
 }
 
 /// Right components with different names in a region, packed or with gaps.

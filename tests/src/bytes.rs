@@ -9,6 +9,10 @@ pub fn little32(bytes: &[u8], at: usize) -> u32 {
     u32::from_le_bytes([bytes[at], bytes[at + 1], bytes[at + 2], bytes[at + 3]])
 }
 
+pub fn little64(bytes: &[u8], at: usize) -> u64 {
+    little32(bytes, at) as u64 | (little32(bytes, at + 4) as u64) << 32
+}
+
 /// Lower-case hexadecimal, `-` where there are no bytes.
 pub fn hex(bytes: &[u8]) -> String {
     const DIGITS: &[u8; 16] = b"0123456789abcdef";

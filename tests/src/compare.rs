@@ -45,13 +45,15 @@ fn compare_one(capability: &Capability, number: usize, case: &Case, expected: &s
         tally.agreed += 1;
         return;
     }
-    tally.fail(format!(
+    let told = format!("operation {}, {} case {number} ({})", case.op as char, capability.name, case.note);
+    let text = format!(
         "{} case {number} differs: {}\n  expected: {}\n  got:      {}",
         capability.name,
         case.describe(),
         clip(expected),
         clip(got)
-    ));
+    );
+    tally.differ(told, text);
     tally.keep(case);
 }
 
@@ -167,12 +169,14 @@ pub fn check_output(words: &Words, input: &[u8], expected: &str, note: &str, cal
                 tally.agreed += 1;
             } else {
                 let told = if input.len() <= 256 { hex(input) } else { String::new() };
-                tally.fail(format!(
-                    "{call} ({note}) differs on an input of {} bytes {told}\n  expected: {}\n  got:      {}",
+                let which = format!("{call}, {note}");
+                let text = format!(
+                    "{which}: differs on an input of {} bytes {told}\n  expected: {}\n  got:      {}",
                     input.len(),
                     clip(expected),
                     clip(&got)
-                ));
+                );
+                tally.differ(which, text);
             }
         }
     }

@@ -7,14 +7,14 @@ use crate::bytes::hex;
 use crate::capability::{reached, Batch, Both, Capability, Literal};
 use crate::cases::{self, long_name, random_content, random_kind, random_name};
 use crate::edit::{self, Refusal};
-use crate::guarded::{raw_region, strict_holds, strict_pairs};
+use crate::guarded::{raw_region, strict_both, strict_holds};
 use crate::image::{bench_a, image_a, lay, put, Frame, Raw};
 use crate::master::{self, Region};
-use crate::plain::master_pairs;
+use crate::plain::master_both;
 use crate::protocol::{refused, Case};
 use crate::rng::Rng;
+use crate::strict;
 use crate::walk::{self, Component, LARCHIVE};
-use crate::{conditions, strict};
 
 pub fn capability() -> Capability {
     Capability { name: "edits", operations: "ard", answer, outcomes, pairs, bench, both, generated, share: 50 }
@@ -111,21 +111,8 @@ fn edit_holds(number: u32, case: &Case) -> bool {
 }
 
 fn both() -> Vec<Both> {
-    let mut list = Vec::new();
-    for op in "ard".bytes() {
-        for (first, image) in master_pairs() {
-            let case = Case::new(op, &image, "two refusals").named(b"a").holding(b"x");
-            let first_holds = conditions::holds(first, &image);
-            let second_holds = conditions::holds(first + 1, &image);
-            list.push(Both { case, first, second: first + 1, first_holds, second_holds });
-        }
-        for (first, second, image) in strict_pairs() {
-            let case = Case::new(op, &image, "two refusals").named(b"c0").holding(b"x");
-            let first_holds = if first == 8 { conditions::holds(8, &image) } else { strict_holds(first, &image) };
-            let second_holds = strict_holds(second, &image);
-            list.push(Both { case, first, second, first_holds, second_holds });
-        }
-    }
+    let mut list = master_both("ard");
+    list.extend(strict_both("ard"));
 
     let same = Arc::new(many(3, true));
     let few = Arc::new(many(3, false));
@@ -422,7 +409,10 @@ fn generated(seed: u64, count: usize) -> Vec<Batch> {
     let target = cases.len() + count * 3 / 5;
     while cases.len() < target {
         let most = if rng.one_in(20) { 8_192 } else { 2_500 };
-        let mut image = Arc::new(accepted(&mut rng, most));
+        let Some(image) = accepted(&mut rng, most) else {
+            break;
+        };
+        let mut image = Arc::new(image);
         for _ in 0..rng.range(3, 25) {
             let case = random_edit(&mut rng, &image);
             let (_, after) = edited(&case);

@@ -1,6 +1,6 @@
 //! Document 01, "Flash map": the reader of an FMAP, refusals 1 and 27 to 37.
 
-use crate::bytes::little32;
+use crate::bytes::{little32, little64};
 
 pub const SIGNATURE: [u8; 8] = [0x5F, 0x5F, 0x46, 0x4D, 0x41, 0x50, 0x5F, 0x5F];
 pub const HEADER: usize = 56;
@@ -112,6 +112,5 @@ pub fn read(image: &[u8]) -> Result<Map, u32> {
     if !held {
         return Err(37);
     }
-    let base = little32(image, at + 10) as u64 | (little32(image, at + 14) as u64) << 32;
-    Ok(Map { minor: image[at + 9], base, areas })
+    Ok(Map { minor: image[at + 9], base: little64(image, at + 10), areas })
 }

@@ -7,9 +7,9 @@ use crate::bench::{long_cal_12, twice_cal_13, CAL_13};
 use crate::bytes::big32;
 use crate::capability::{reached, Batch, Both, Capability, Literal};
 use crate::cases::{self, Scene};
-use crate::image::{image_a, put, Frame, Raw};
+use crate::image::{image_a, lay, put, Frame, Raw};
 use crate::master::{self, Region};
-use crate::plain::{found, listing, master_pairs, step};
+use crate::plain::{found, listing, master_both, step};
 use crate::protocol::{refused, Case};
 use crate::rng::Rng;
 use crate::walk::{self, LARCHIVE};
@@ -82,7 +82,7 @@ pub fn strict_holds(number: u32, image: &[u8]) -> bool {
 }
 
 /// Images in which two of 8, 12, 13, 11 hold, with the two.
-pub fn strict_pairs() -> Vec<(u32, u32, Arc<Vec<u8>>)> {
+fn strict_pairs() -> Vec<(u32, u32, Arc<Vec<u8>>)> {
     // Offset off a multiple of align, and a magic without a header.
     let frame = Frame { offset: 32, ..Frame::new(1024, 64, 256, 64, 0) };
     let mut image = vec![0xA5; 1024];
@@ -96,18 +96,26 @@ pub fn strict_pairs() -> Vec<(u32, u32, Arc<Vec<u8>>)> {
     vec![(8, 12, Arc::new(eight)), (12, 13, Arc::new(crowd)), (13, 11, Arc::new(many(257, true))), (12, 11, Arc::new(same))]
 }
 
-fn both() -> Vec<Both> {
+/// Each of these operations on each of those images, with the name of a component in them.
+pub fn strict_both(operations: &str) -> Vec<Both> {
     let mut list = Vec::new();
-    let mut pair = |case: Case, first: u32, second: u32, first_holds: bool, second_holds: bool| {
-        list.push(Both { case, first, second, first_holds, second_holds });
-    };
-    for (first, image) in master_pairs() {
-        let holds = conditions::holds(first, &image);
-        let next = conditions::holds(first + 1, &image);
-        for op in "gjkc".bytes() {
-            pair(Case::new(op, &image, "two refusals").named(b"a"), first, first + 1, holds, next);
+    for (first, second, image) in strict_pairs() {
+        let first_holds = if first == 8 { conditions::holds(8, &image) } else { strict_holds(first, &image) };
+        let second_holds = strict_holds(second, &image);
+        for op in operations.bytes() {
+            let case = Case::new(op, &image, "two refusals").named(b"c0");
+            list.push(Both { case, first, second, first_holds, second_holds });
         }
     }
+    list
+}
+
+fn both() -> Vec<Both> {
+    let mut list = master_both("gjkc");
+    list.extend(strict_both("c"));
+    let mut pair = |case: Case, second: u32, first_holds: bool, second_holds: bool| {
+        list.push(Both { case, first: 8, second, first_holds, second_holds });
+    };
     let frame = Frame { offset: 32, ..Frame::new(1024, 64, 256, 64, 0) };
     let mut image = vec![0xA5; 1024];
     put(&mut image, 64, &Raw::new(b"a", 1, b"").bytes());
@@ -116,16 +124,11 @@ fn both() -> Vec<Both> {
     let eight = conditions::holds(8, &image);
     for number in [0, 31, 33, 769, u64::MAX] {
         let nine = number < 32 || number > 768 || number % 64 != 0;
-        pair(Case::new(b'j', &image, "two refusals").numbered(number), 8, 9, eight, nine);
+        pair(Case::new(b'j', &image, "two refusals").numbered(number), 9, eight, nine);
     }
-    pair(Case::new(b'k', &image, "two refusals").named(b"b"), 8, 10, eight, !image.contains(&b'b'));
+    pair(Case::new(b'k', &image, "two refusals").named(b"b"), 10, eight, !image.contains(&b'b'));
     let bearers = walk::bearers(&walk::listing(&image, raw_region(&image), strict::guarded), b"a");
-    pair(Case::new(b'k', &image, "two refusals").named(b"a"), 8, 11, eight, bearers.len() == 2);
-    for (first, second, image) in strict_pairs() {
-        let holds = if first == 8 { conditions::holds(8, &image) } else { strict_holds(first, &image) };
-        let next = strict_holds(second, &image);
-        pair(Case::new(b'c', &image, "two refusals"), first, second, holds, next);
-    }
+    pair(Case::new(b'k', &image, "two refusals").named(b"a"), 11, eight, bearers.len() == 2);
     list
 }
 
@@ -167,7 +170,7 @@ fn buried(rng: &mut Rng, scenes: &mut Vec<Scene>) {
         let length = end + 40;
         for len in [size - 40, 4 * align - 40, 4 * align - 39, 4 * align - 41, end - 40] {
             for at in 1..=(end / align) {
-                for shift in [-1i64, 0, 1] {
+                for shift in [-1, 0, 1, align as i64 / 2] {
                     for whole in [false, true] {
                         let mut image = if rng.one_in(2) { rng.bytes(length) } else { vec![0xFF; length] };
                         put(&mut image, 0, &Raw::new(b"outer", 1, &vec![2; len]).bytes());
@@ -184,6 +187,17 @@ fn buried(rng: &mut Rng, scenes: &mut Vec<Scene>) {
                     }
                 }
             }
+        }
+    }
+}
+
+/// The magic in the name, at each multiple of 16 from the header and beside it, at places and between them.
+fn buried_in_name(scenes: &mut Vec<Scene>) {
+    for align in [16, 32, 64, 256] {
+        for at in (32..=256).step_by(16).flat_map(|at| [at - 1, at, at + 1]) {
+            let name = [&vec![b'x'; at - 24][..], LARCHIVE].concat();
+            let image = lay(&Frame::new(1024, 36, 100, align, 0), &[(0, Raw::new(&name, 1, b"content"))]);
+            scenes.push(Scene { image: Arc::new(image), numbers: vec![0], names: vec![name], note: "buried in the name" });
         }
     }
 }
@@ -221,6 +235,7 @@ fn generated(seed: u64, count: usize) -> Vec<Batch> {
     let mut rng = Rng::new(seed ^ 0x6A4D);
     let mut scenes = Vec::new();
     buried(&mut rng, &mut scenes);
+    buried_in_name(&mut scenes);
     crowds(&mut scenes);
     let mut cases = Vec::new();
     for scene in &scenes {

@@ -1,6 +1,6 @@
 //! Document 01, "Load plans": stage and payload plans of a component found by the guarded lookup.
 
-use crate::bytes::{big32, little32};
+use crate::bytes::{big32, little32, little64};
 use crate::master;
 use crate::strict::guarded_lookup;
 use crate::walk::Component;
@@ -38,10 +38,6 @@ pub struct Segment {
     pub load: u64,
     pub len: u32,
     pub memlen: u32,
-}
-
-fn little64(bytes: &[u8], at: usize) -> u64 {
-    little32(bytes, at) as u64 | (little32(bytes, at + 4) as u64) << 32
 }
 
 fn big64(bytes: &[u8], at: usize) -> u64 {

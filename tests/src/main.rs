@@ -1,6 +1,7 @@
 //! The second program: document 01 once more, from the paper, and the library compared with it over generated cases.
 //!
-//!   second PROBE LIST [--seed N] [--cases N] [--keep FILE]   compare; the status is 0 where all agrees
+//!   second PROBE LIST [--seed N] [--cases N] [--keep FILE]   compare; the status is 0 where all agrees,
+//!                                                            1 where an answer differs, 2 where it fails otherwise
 //!   second bench-image                                       write bench image A
 //!   second self-test                                         show that the comparer notices wrong answers
 
@@ -50,6 +51,11 @@ fn capabilities() -> Vec<Capability> {
 /// The least number of cases of a run that does not say how many.
 const CASES: usize = 20_000;
 
+/// The status of a run in which an answer of the programs differs from the reference's.
+const DIFFERS: u8 = 1;
+/// The status of a run that fails though no answer differs.
+const AMISS: u8 = 2;
+
 fn compare_all(probe: &Words, list: &Words, seed: u64, count: usize, keep: Option<String>) -> Tally {
     let mut tally = Tally::new(keep);
     for capability in capabilities() {
@@ -95,21 +101,26 @@ fn main() -> ExitCode {
     }
 
     let tally = compare_all(&vec![paths[0].clone().into()], &vec![paths[1].clone().into()], seed, count, keep);
+    verdict(&tally, seed, count)
+}
+
+/// Says how a run came out, in lines and in the status.
+fn verdict(tally: &Tally, seed: u64, count: usize) -> ExitCode {
     print!("{}", tally.table());
-    if count >= CASES && tally.agreed < CASES && tally.failures.is_empty() {
-        println!("second program: FAILED, {} cases are fewer than {CASES}", tally.agreed);
-        return ExitCode::FAILURE;
+    if tally.failures.is_empty() && (count < CASES || tally.agreed >= CASES) {
+        println!("second program: {} cases agree", tally.agreed);
+        return ExitCode::SUCCESS;
     }
     if tally.failures.is_empty() {
-        println!("second program: {} cases agree", tally.agreed);
-        ExitCode::SUCCESS
-    } else {
-        println!("second program: FAILED, {} failures, {} cases agree, seed {seed}", tally.failures.len(), tally.agreed);
-        ExitCode::FAILURE
+        println!("second program: FAILED, {} cases are fewer than {CASES}", tally.agreed);
+        return ExitCode::from(AMISS);
     }
+    println!("first difference: {}", tally.difference.as_deref().unwrap_or("none"));
+    println!("second program: FAILED, {} failures, {} cases agree, seed {seed}", tally.failures.len(), tally.agreed);
+    ExitCode::from(if tally.difference.is_some() { DIFFERS } else { AMISS })
 }
 
 fn usage() -> ExitCode {
     eprintln!("second PROBE LIST [--seed N] [--cases N] [--keep FILE] | second bench-image | second self-test");
-    ExitCode::FAILURE
+    ExitCode::from(AMISS)
 }

@@ -138,7 +138,9 @@ fn map_holds(number: u32, image: &[u8]) -> bool {
     if number == 29 {
         return !found.is_empty() && found.iter().all(runs_past);
     }
-    let at = found[0];
+    let Some(&at) = found.first() else {
+        return false;
+    };
     let count = word16(at + 54).unwrap_or(0) as usize;
     let mut areas = Vec::new();
     for index in 0..count {
@@ -444,21 +446,18 @@ fn areas(cases: &mut Vec<Case>) {
             }
         }
     }
-    // Faults in turn: an earlier area's 35 before a later one's 33.
-    for one in 0..4 {
-        for two in 0..4 {
-            let mut map = MapFields::new(4096, 0, &[(0x800, 0x10, "A"), (0x900, 0x10, "B"), (0xA00, 0x10, "C")]);
-            for (index, fault) in [(0, one), (1, two)] {
-                let area = &mut map.areas[index];
-                match fault {
-                    0 => {}
-                    1 => area.name = b"a b".to_vec(),
-                    2 => area.size = 0,
-                    _ => area.name = b"C".to_vec(),
-                }
+    // Faults in turn: an earlier area's 35 before a later one's 33, and any area's 33 or 35 before 34.
+    for faults in 0..64 {
+        let mut map = MapFields::new(4096, 0, &[(0x800, 0x10, "A"), (0x900, 0x10, "B"), (0xA00, 0x10, "C")]);
+        for (area, fault) in map.areas.iter_mut().zip([faults % 4, faults / 4 % 4, faults / 16]) {
+            match fault {
+                0 => {}
+                1 => area.name = b"a b".to_vec(),
+                2 => area.size = 0,
+                _ => area.name = b"SAME".to_vec(),
             }
-            cases.push(map.case("faults in turn"));
         }
+        cases.push(map.case("faults in turn"));
     }
 }
 

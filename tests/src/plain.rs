@@ -111,29 +111,35 @@ pub fn master_pairs() -> Vec<(u32, Arc<Vec<u8>>)> {
     ]
 }
 
-fn both() -> Vec<Both> {
+/// Each of these operations on each of those images.
+pub fn master_both(operations: &str) -> Vec<Both> {
     let mut list = Vec::new();
-    let mut pair = |case: Case, first: u32, second: u32, first_holds: bool, second_holds: bool| {
-        list.push(Both { case, first, second, first_holds, second_holds });
-    };
     for (first, image) in master_pairs() {
-        let holds = conditions::holds(first, &image);
-        let next = conditions::holds(first + 1, &image);
-        for op in "mpil".bytes() {
+        let first_holds = conditions::holds(first, &image);
+        let second_holds = conditions::holds(first + 1, &image);
+        for op in operations.bytes() {
             let case = Case::new(op, &image, "two refusals").named(b"a");
-            pair(case, first, first + 1, holds, next);
+            list.push(Both { case, first, second: first + 1, first_holds, second_holds });
         }
     }
+    list
+}
+
+fn both() -> Vec<Both> {
+    let mut list = master_both("mpil");
+    let mut pair = |case: Case, second: u32, first_holds: bool, second_holds: bool| {
+        list.push(Both { case, first: 8, second, first_holds, second_holds });
+    };
     // Offset off a multiple of align: a number below it, and a name that no component can bear.
     let frame = Frame { offset: 32, ..Frame::new(1024, 64, 256, 64, 0) };
     let image = Arc::new(frame.over(vec![0xA5; 1024]));
     let holds = conditions::holds(8, &image);
     for number in [0, 31, 33, 769, u64::MAX] {
         let nine = number < 32 || number > 768 || number % 64 != 0;
-        pair(Case::new(b'i', &image, "two refusals").numbered(number), 8, 9, holds, nine);
+        pair(Case::new(b'i', &image, "two refusals").numbered(number), 9, holds, nine);
     }
-    pair(Case::new(b'l', &image, "two refusals").named(b""), 8, 10, holds, true);
-    pair(Case::new(b'l', &image, "two refusals").named(b"a"), 8, 10, holds, !image.windows(8).any(|part| part == walk::LARCHIVE));
+    pair(Case::new(b'l', &image, "two refusals").named(b""), 10, holds, true);
+    pair(Case::new(b'l', &image, "two refusals").named(b"a"), 10, holds, !image.windows(8).any(|part| part == walk::LARCHIVE));
     list
 }
 

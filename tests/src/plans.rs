@@ -7,7 +7,7 @@ use crate::capability::{reached, Batch, Both, Capability, Literal};
 use crate::cases;
 use crate::image::{put, Frame, Raw};
 use crate::load::{self, BSS, CODE, DATA, ENTRY, PARAMS, PAYLOAD, STAGE};
-use crate::plain::master_pairs;
+use crate::plain::master_both;
 use crate::protocol::{refused, Case};
 use crate::rng::Rng;
 use crate::{conditions, walk};
@@ -177,15 +177,7 @@ fn plan_holds(number: u32, case: &Case, index: usize) -> bool {
 }
 
 fn both() -> Vec<Both> {
-    let mut list = Vec::new();
-    for (first, image) in master_pairs() {
-        for op in "sy".bytes() {
-            let case = Case::new(op, &image, "two refusals").named(b"a");
-            let first_holds = conditions::holds(first, &image);
-            let second_holds = conditions::holds(first + 1, &image);
-            list.push(Both { case, first, second: first + 1, first_holds, second_holds });
-        }
-    }
+    let mut list = master_both("sy");
 
     // Offset off a multiple of align; a name borne twice, by components of another type.
     let twice = |frame: &Frame| {

@@ -141,12 +141,17 @@ fn sentences(spoiled: Arc<Vec<u8>>, bad: Vec<(usize, usize)>, untouched: Vec<Com
     })
 }
 
-/// So many spoiled images with their checks.
+/// Spoiled images with their checks, of so many cases together.
 pub fn batches(rng: &mut Rng, count: usize) -> Vec<Batch> {
     let mut list = Vec::new();
     let mut sent = 0;
-    while sent < count {
-        let image = accepted(rng, 8_192);
+    let mut tries = 0;
+    // Each image makes more than one case, and most serve.
+    while sent < count && tries < count {
+        tries += 1;
+        let Some(image) = accepted(rng, 8_192) else {
+            break;
+        };
         let region = master::region(&image).expect("accepted");
         let components = strict::check(&image, region).expect("accepted");
         if components.len() < 3 && !rng.one_in(10) || components.is_empty() {

@@ -11,6 +11,9 @@ const SHOWN: usize = 5;
 pub struct Tally {
     pub agreed: usize,
     pub failures: Vec<String>,
+    /// The first case whose answer was another than expected. None where all failures are of other kinds:
+    /// a reference that breaks what document 01 writes out, an outcome not reached, a program that did not run to its end.
+    pub difference: Option<String>,
     reached: BTreeMap<(String, String), usize>,
     pairs: BTreeMap<(u8, u32, u32), usize>,
     pub hung: bool,
@@ -19,7 +22,15 @@ pub struct Tally {
 
 impl Tally {
     pub fn new(keep: Option<String>) -> Tally {
-        Tally { agreed: 0, failures: Vec::new(), reached: BTreeMap::new(), pairs: BTreeMap::new(), keep, hung: false }
+        Tally {
+            agreed: 0,
+            failures: Vec::new(),
+            difference: None,
+            reached: BTreeMap::new(),
+            pairs: BTreeMap::new(),
+            keep,
+            hung: false,
+        }
     }
 
     /// A program could not be run to its end: nothing more is asked of any.
@@ -33,6 +44,12 @@ impl Tally {
             println!("{text}");
         }
         self.failures.push(text);
+    }
+
+    /// An answer other than expected, to the case that `case` tells.
+    pub fn differ(&mut self, case: String, text: String) {
+        self.difference.get_or_insert(case);
+        self.fail(text);
     }
 
     pub fn count(&mut self, call: &str, answer: &str) {
