@@ -1,21 +1,22 @@
 -- Laws of the judge: how it is reached test by test, and the three by which the walks know it. What it accepts begins with the magic; its
 -- span is positive and lies in the part; and it answers the same on any part that agrees on the span.
-use Prim.Native.Nat.{ℕ, _+_, _-_, _%_, _≤_, _<_, min}
+use Prim.Native.Nat.{ℕ, zero, suc, _+_, _-_, _%_, _≤_, _<_, min}
 use native.Mathlib.Nat.{min-le-left}
 use native.Mathlib.Omega.{arith}
 use mathlib.Core.Path.{_≡_, refl, sym, ap, subst, _∙_}
-use mathlib.Core.List.{List}
-use mathlib.Core.Bool.{Bool, true, false, cond}
+use mathlib.Core.List.{List, [], _∷_}
+use mathlib.Core.Bool.{Bool, true, false, cond, true≢false, false≢true}
 use mathlib.Core.Option.{Option, some, none, Option·some-injective, Option·none-ne-some}
 use lib.ListN.{length, getD, take, drop, length-take, length-drop}
 use lib.Seq.{take-take, getD-take, getD-drop, ext-getD}
-use borrow.Author.Tests.{leb-true, le-leb, eqb-true}
+use lib.Dec.{ltb, eqb}
+use borrow.Author.Tests.{leb-true, le-leb, ltb-true, eq-eqb, ne-eqb, eqb-true}
 use Rattle.number.specs.Number.{be}
-use Rattle.number.proofs.Digits.{be-same}
-use Rattle.number.specs.Bytes.{partOf}
-use Rattle.number.proofs.SameBytes.{eq-length}
+use Rattle.number.proofs.Digits.{be-same, be-tells}
+use Rattle.number.specs.Bytes.{partOf, eqBytes}
+use Rattle.number.proofs.SameBytes.{eq-length, eq-true, eq-refl}
 use Rattle.number.proofs.Splice.{part-in}
-use Rattle.number.specs.Tests.{every}
+use Rattle.number.specs.Tests.{every, all}
 use Rattle.component.specs.Names.{beforeZero, nameTests, nameFits, fieldTests, fieldFits, nameLength}
 use Rattle.component.specs.Component.{magic, startsWithMagic, lenOf, kindOf, offsetOf, nameField, Component, span, componentOf, headerTests, wellFormed, fields, judge, judged, headerOf, nameOf, contentOf}
 use Rattle.component.specs.declared.Header.{Header}
@@ -32,6 +33,29 @@ short-no-magic s h = eq-length _ _ (λ e. omega (arith, e, length-take 8 s))
 pub magic-eight : (s : List ℕ) → startsWithMagic s ≡ startsWithMagic (take 8 s)
 unfolding startsWithMagic
 magic-eight s = rw (take-take 8 8 s (omega arith))
+
+-- Every byte of a list passes a bound that all of its elements pass; past the end it is 0.
+small : (l : List ℕ) → all (λ b. ltb b 256) l ≡ true → (j : ℕ) → getD l j 0 < 256
+unfolding all
+small [] e j = omega arith
+small (x ∷ l) e j = go (ltb x 256) refl e j (small l)
+  where
+    go : (b : Bool) → ltb x 256 ≡ b → cond b (all (λ y. ltb y 256) l) false ≡ true → (j : ℕ) → (all (λ y. ltb y 256) l ≡ true → (k : ℕ) → getD l k 0 < 256) → getD (x ∷ l) j 0 < 256
+    go true q f zero ih = ltb-true x 256 q
+    go true q f (suc k) ih = ih f k
+    go false q f j ih = absurd (false≢true f)
+
+-- Eight bytes are the magic exactly if they make the same number.
+pub magic-number : (s : List ℕ) → 8 ≤ length s → ((j : ℕ) → getD s j 0 < 256) → eqb (be 8 s 0) (be 8 magic 0) ≡ startsWithMagic s
+unfolding startsWithMagic magic all
+magic-number s l p = go (eqBytes (take 8 s) magic) refl
+  where
+    go : (b : Bool) → eqBytes (take 8 s) magic ≡ b → eqb (be 8 s 0) (be 8 magic 0) ≡ eqBytes (take 8 s) magic
+    go true e = rw e (eq-eqb _ _ (be-same 8 magic s 0 (λ j _ h. sym (getD-take 8 s j 0 (omega arith)) ∙ ap (λ (x : List ℕ). getD x j 0) (eq-true (take 8 s) magic e))))
+    go false e = rw e (ne-eqb _ _ (λ q. true≢false (sym (ap (λ (x : List ℕ). eqBytes x magic) (same q) ∙ eq-refl magic) ∙ e)))
+      where
+        same : be 8 s 0 ≡ be 8 magic 0 → take 8 s ≡ magic
+        same q = ext-getD 0 (take 8 s) magic (length-take 8 s ∙ omega arith) (λ j h. getD-take 8 s j 0 (omega (arith, length-take 8 s)) ∙ be-tells 8 s magic 0 p (small magic refl) q j (omega arith) (omega (arith, length-take 8 s)))
 
 -- A fit field holds a name, and its length tells it.
 

@@ -21,7 +21,7 @@ pub enum Judged {
     IllFormed,
 }
 
-// The part begins with the magic.
+// The part begins with the magic. The eight bytes are compared as one number: one comparison, where a loop makes eight.
 pub fn starts_with_magic(s: &[u8]) -> bool
     ensures { λ r. ⌜ r ≡ startsWithMagic (now (s .entry)) ⌝ }
     ensures kept { λ _. ⌜ now (s .exit) ≡ now (s .entry) ⌝ }
@@ -29,7 +29,7 @@ pub fn starts_with_magic(s: &[u8]) -> bool
     if s.len() < 8 {
         return false;
     }
-    number::equal(&s[0..8], b"LARCHIVE")
+    number::be64(s, 0) == number::be64(b"LARCHIVE", 0)
 }
 
 // How many bytes stand before the first zero.
@@ -120,6 +120,7 @@ pub fn fields(s: &[u8]) -> Judged
     }
     let offset = number::be32(s, 20) as usize;
     let len = number::be32(s, 8) as usize;
+    let kind = number::be32(s, 12);
     if offset < 40 {
         return Judged::IllFormed;
     }
@@ -139,7 +140,7 @@ pub fn fields(s: &[u8]) -> Judged
     Judged::WellFormed(Header {
         offset,
         len,
-        kind: number::be32(s, 12),
+        kind,
         named,
     })
 }

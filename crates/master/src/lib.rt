@@ -161,13 +161,12 @@ pub fn read(image: &[u8]) -> Master
     ensures { λ r. ⌜ r ≡ master (now (image .entry)) ⌝ }
     ensures kept { λ _. ⌜ now (image .exit) ≡ now (image .entry) ⌝ }
 {
+    let start = field(image, 20) as usize;
+    let end = region_end(image);
+    let align = field(image, 16) as usize;
     let n = refusal(image);
     if n != 0 {
         return Master::Refused(terms::refused(n));
     }
-    Master::Read(Region {
-        start: field(image, 20) as usize,
-        end: region_end(image),
-        align: field(image, 16) as usize,
-    })
+    Master::Read(Region { start, end, align })
 }

@@ -4,6 +4,7 @@ use mathlib.Core.Path.{_≡_, refl, sym, ap}
 use mathlib.Core.List.{List, [], _∷_, _++_, append-assoc}
 use native.Mathlib.Nat.{div-add-mod', div-lt-iff-lt-mul, pow-suc, add-zero, zero-add, add-suc, suc-add}
 use native.Mathlib.Omega.{arith}
+use native.Mathlib.Decide.{decLt}
 use lib.ListN.{length, getD, length-append, List·getD-eq-default}
 use lib.Seq.{getD-at}
 use Rattle.number.specs.Number.{be, le, beBytes, leBytes}
@@ -52,6 +53,11 @@ pub le-one : (s : List ℕ) (i : ℕ) → getD s i 0 ≡ le 1 s i
 unfolding le
 le-one s i = omega arith
 
+-- Four bytes, one by one.
+pub be-four : (s : List ℕ) (i : ℕ) → getD s i 0 * 16777216 + getD s (i + 1) 0 * 65536 + getD s (i + 2) 0 * 256 + getD s (i + 3) 0 ≡ be 4 s i
+unfolding be
+be-four s i = rw (add-zero i) (omega arith)
+
 -- A number is told by its own bytes.
 
 pub be-same : (w : ℕ) (s s′ : List ℕ) (i : ℕ) → ((j : ℕ) → i ≤ j → j < i + w → getD s′ j 0 ≡ getD s j 0) → be w s′ i ≡ be w s i
@@ -63,6 +69,16 @@ pub le-same : (w : ℕ) (s s′ : List ℕ) (i : ℕ) → ((j : ℕ) → i ≤ j
 unfolding le
 le-same zero s s′ i h = refl
 le-same (suc w) s s′ i h = rw (le-same w s s′ (i + 1) (λ j l k. h j (omega arith) (omega arith)), h i (omega arith) (omega arith))
+
+-- And it tells them: two numbers that are equal have the same bytes.
+pub be-tells : (w : ℕ) (s t : List ℕ) (i : ℕ) → ((j : ℕ) → getD s j 0 < 256) → ((j : ℕ) → getD t j 0 < 256) → be w s i ≡ be w t i → (j : ℕ) → i ≤ j → j < i + w → getD s j 0 ≡ getD t j 0
+unfolding be
+be-tells zero s t i p q e j l h = absurd (omega arith)
+be-tells (suc w) s t i p q e j l h = go (decLt j (i + w)) (be-tells w s t i p q (omega (arith, p (i + w), q (i + w))) j l)
+  where
+    go : Dec (j < i + w) → (j < i + w → getD s j 0 ≡ getD t j 0) → getD s j 0 ≡ getD t j 0
+    go (yes k) ih = ih k
+    go (no k) ih = let z : j ≡ i + w = omega arith in rw z (omega (arith, p (i + w), q (i + w)))
 
 -- What was written is read again.
 

@@ -1,13 +1,14 @@
 -- Laws of eqBytes, for a loop over the indices and for whoever compares.
-use Prim.Native.Nat.{ℕ, suc, _+_, _≤_, _<_}
-use mathlib.Core.Path.{_≡_, refl, ap}
+use Prim.Native.Nat.{ℕ, suc, _+_, _-_, _≤_, _<_}
+use native.Mathlib.Omega.{arith}
+use mathlib.Core.Path.{_≡_, refl, ap, _∙_}
 use mathlib.Core.Bool.{Bool, true, false, cond, false≢true}
 use mathlib.Core.List.{List, [], _∷_}
 use native.Mathlib.Numerals.{add-one}
 use lib.ListN.{length, drop, getD, drop-of-length-le}
 use lib.Seq.{drop-cons}
 use lib.Dec.{eqb}
-use borrow.Author.Tests.{eq-eqb, ne-eqb, eqb-true}
+use borrow.Author.Tests.{eq-eqb, eqb-true}
 use Rattle.number.specs.Bytes.{eqBytes}
 
 pub eq-length : (a b : List ℕ) → (length a ≡ length b → ⊥) → eqBytes a b ≡ false
@@ -26,14 +27,13 @@ pub eq-here : (a b : List ℕ) (i : ℕ) → i < length a → i < length b → g
 unfolding eqBytes
 eq-here a b i ha hb e = rw (add-one, drop-cons a i 0 ha, drop-cons b i 0 hb, eq-eqb (getD a i 0) (getD b i 0) e)
 
-pub eq-differ : (a b : List ℕ) (i : ℕ) → i < length a → i < length b → (getD a i 0 ≡ getD b i 0 → ⊥)
-    → eqBytes (drop i a) (drop i b) ≡ false
-unfolding eqBytes
-eq-differ a b i ha hb e = rw (drop-cons a i 0 ha, drop-cons b i 0 hb, ne-eqb (getD a i 0) (getD b i 0) e)
-
 pub eq-done : (a b : List ℕ) (i : ℕ) → length a ≤ i → length b ≤ i → eqBytes (drop i a) (drop i b) ≡ true
 unfolding eqBytes
 eq-done a b i ha hb = rw (drop-of-length-le a ha, drop-of-length-le b hb)
+
+-- From the bytes from i on to one more before them.
+pub eq-back : (a b : List ℕ) (i : ℕ) → 0 < i → i ≤ length a → i ≤ length b → getD a (i - 1) 0 ≡ getD b (i - 1) 0 → eqBytes (drop i a) (drop i b) ≡ true → eqBytes (drop (i - 1) a) (drop (i - 1) b) ≡ true
+eq-back a b i p ha hb e t = let n : i - 1 + 1 ≡ i = omega arith in eq-here a b (i - 1) (omega arith) (omega arith) e ∙ rw n t
 
 -- The test says that the bytes are the same, and nothing else.
 pub eq-true : (a b : List ℕ) → eqBytes a b ≡ true → a ≡ b
@@ -51,3 +51,11 @@ pub eq-refl : (a : List ℕ) → eqBytes a a ≡ true
 unfolding eqBytes
 eq-refl [] = refl
 eq-refl (x ∷ a) = rw (eq-eqb x x refl) (eq-refl a)
+
+-- One byte that differs.
+pub eq-differ : (a b : List ℕ) (i : ℕ) → (getD a i 0 ≡ getD b i 0 → ⊥) → eqBytes a b ≡ false
+eq-differ a b i h = go (eqBytes a b) refl
+  where
+    go : (t : Bool) → eqBytes a b ≡ t → eqBytes a b ≡ false
+    go true e = absurd (h (ap (λ (x : List ℕ). getD x i 0) (eq-true a b e)))
+    go false e = e

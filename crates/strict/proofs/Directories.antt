@@ -3,20 +3,22 @@ use Prim.Native.Nat.{ℕ, zero, suc, _+_, _-_, _≤_, _<_}
 use native.Mathlib.Nat.{sub-zero, add-zero}
 use native.Mathlib.Numerals.{add-one}
 use native.Mathlib.Omega.{arith}
+use native.Mathlib.Decide.{decLt}
 use mathlib.Core.Path.{_≡_, refl, sym, ap, _∙_}
 use mathlib.Core.List.{List, [], _∷_, _++_, map, append-assoc, List·Memᴰ, List·Memᴰ·head, List·Memᴰ·tail}
-use mathlib.Core.Bool.{Bool, true, false}
-use mathlib.Core.Option.{some}
-use lib.ListN.{length, take, drop, getD, set, replicate, length-map, length-append}
-use lib.Seq.{take-suc, drop-cons, set-at, getD-at, length-take-le, take-append-seam, drop-append-seam}
-use Rattle.number.specs.Bytes.{eqBytes}
-use Rattle.component.specs.Component.{judge, nameOf}
+use mathlib.Core.Bool.{Bool, true, false, cond}
+use mathlib.Core.Option.{Option, some, none}
+use lib.ListN.{length, take, drop, getD, set, replicate, length-map, length-append, length-set}
+use lib.Seq.{getD-set-same, getD-set-other, take-suc, drop-cons, set-at, getD-at, length-take-le, take-append-seam, drop-append-seam}
+use Rattle.number.specs.Bytes.{fits, partOf, eqBytes}
+use Rattle.component.specs.Component.{Component, judge, judged, headerOf, nameOf}
+use Rattle.component.proofs.Judging.{part-name}
 use Rattle.walk.specs.Lists.{any}
 use Rattle.walk.specs.Walk.{Entry, plainListing}
 use Rattle.walk.specs.Lookup.{bears}
 use Rattle.walk.proofs.Members.{given}
 use Rattle.strict.specs.Strict.{limit, toldApart, placesOf, padded}
-use Rattle.strict.specs.Directory.{noPlaces, fill, named, apartAt}
+use Rattle.strict.specs.Directory.{noPlaces, fill, NameLengths, named, apartAt}
 
 -- A directory: the places that are in use, and zeros after them.
 
@@ -139,9 +141,42 @@ told-padded s ps h = rw (padded-used limit ps, padded-unused limit ps) (unfold p
 
 -- What was read and compared at a place.
 
-pub name-said : (r : List ℕ) (p : ℕ) {u v : List ℕ} → u ≡ drop p r → v ≡ nameOf (judge u) → v ≡ nameOf (judge (drop p r))
-name-said r p q s = s ∙ ap (λ (l : List ℕ). nameOf (judge l)) q
+part-none : (s : List ℕ) → partOf s 24 0 ≡ []
+unfolding partOf
+part-none s = go (fits s 24 0)
+  where
+    go : (b : Bool) → cond b (take 0 (drop 24 s)) [] ≡ []
+    go true = refl
+    go false = refl
 
-pub named-said : (r name : List ℕ) (p : ℕ) {u v : List ℕ} {b : Bool} → u ≡ drop p r → v ≡ nameOf (judge u) → b ≡ eqBytes v name → named r name p ≡ b
+-- A name is the bytes after the header, as many as it is long.
+name-part : (s : List ℕ) → partOf s 24 (length (nameOf (judge s))) ≡ nameOf (judge s)
+name-part s = go (judge s) refl
+  where
+    go : (o : Option Component) → judge s ≡ o → partOf s 24 (length (nameOf (judge s))) ≡ nameOf (judge s)
+    go none e = rw e (part-none s)
+    go (some c) e = rw e (part-name s (headerOf c) (ap judged e) ∙ ap nameOf e)
+
+pub name-said : (r : List ℕ) (p : ℕ) {u v : List ℕ} {m : ℕ} → u ≡ drop p r → m ≡ length (nameOf (judge (drop p r))) → v ≡ partOf u 24 m → v ≡ nameOf (judge (drop p r))
+name-said r p q n s = s ∙ rw (q, n) (name-part (drop p r))
+
+pub named-said : (r name : List ℕ) (p : ℕ) {u v : List ℕ} {m : ℕ} {b : Bool} → u ≡ drop p r → m ≡ length (nameOf (judge (drop p r))) → v ≡ partOf u 24 m → b ≡ eqBytes v name → named r name p ≡ b
 unfolding named
-named-said r name p q s t = sym (t ∙ ap (λ (l : List ℕ). eqBytes l name) (name-said r p q s))
+named-said r name p q n s t = sym (t ∙ ap (λ (l : List ℕ). eqBytes l name) (name-said r p q n s))
+
+-- The lengths of the names, stored one after the other.
+
+pub lengths-none : (r places l : List ℕ) → length l ≡ limit → NameLengths r places 0 l
+lengths-none r places l e = record { wide = e; each = λ k h. absurd (omega arith) }
+
+pub lengths-on : (r places l : List ℕ) (i : ℕ) {u v : List ℕ} → i < limit → u ≡ drop (getD places i 0) r → v ≡ nameOf (judge u) → NameLengths r places i l → NameLengths r places (i + 1) (set l i (length v))
+lengths-on r places l i {u} {v} h q s n = record { wide = simp length-set (n .wide); each = each }
+  where
+    each : (k : ℕ) → k < i + 1 → getD (set l i (length v)) k 0 ≡ length (nameOf (judge (drop (getD places k 0) r)))
+    each k b = go (decLt k i)
+      where
+        go : Dec (k < i) → getD (set l i (length v)) k 0 ≡ length (nameOf (judge (drop (getD places k 0) r)))
+        go (yes c) = getD-set-other l i k (length v) 0 (λ z. omega arith) ∙ n .each k c
+        go (no c) =
+            let z : k ≡ i = omega arith in
+            rw z (getD-set-same l i (length v) 0 (omega (arith, n .wide)) ∙ ap length (s ∙ ap (λ (x : List ℕ). nameOf (judge x)) q))

@@ -3,7 +3,7 @@ use Prim.Native.Nat.{ℕ, _+_, _<_}
 use mathlib.Core.Path.{_≡_}
 use mathlib.Core.List.{List, [], _∷_, map}
 use mathlib.Core.Bool.{Bool, true, false, cond, not, _&&_}
-use lib.ListN.{length, drop, set, replicate}
+use lib.ListN.{length, getD, drop, set, replicate}
 use lib.Dec.{eqb}
 use Rattle.number.specs.Bytes.{eqBytes}
 use Rattle.component.specs.Component.{judge, nameOf}
@@ -35,6 +35,11 @@ fill d n (t ∷ ts) = fill (set d n (t .place)) (n + 1) ts
 pub record Passed (r : List ℕ) (a : ℕ) (s : Pass) : Type 0 where
   pub stray : s .astray ≡ true → (verdict limit r a ≡ refused 12 (s .place)) × (s .place < length r)
   pub clean : s .astray ≡ false → (strays r a ≡ []) × (s .count ≡ length (plainListing r a)) × (s .places ≡ fill noPlaces 0 (plainListing r a))
+
+-- l holds how long the names of the components at the first n places are.
+pub record NameLengths (r places : List ℕ) (n : ℕ) (l : List ℕ) : Type 0 where
+  pub wide : length l ≡ limit
+  pub each : (k : ℕ) → k < n → getD l k 0 ≡ length (nameOf (judge (drop (getD places k 0) r)))
 
 -- The component at the place p bears the name.
 unfoldable pub named : List ℕ → List ℕ → ℕ → Bool

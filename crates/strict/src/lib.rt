@@ -9,7 +9,7 @@ ghost use lib.ListN.{length, take, drop, getD, set};
 ghost use Rattle.walk.specs.Lists.{any};
 ghost use Rattle.terms.specs.Terms.{bytesOf};
 ghost use Rattle.strict.specs.Strict.{limit, verdict};
-ghost use Rattle.strict.specs.Directory.{noPlaces, refusal, directory, Passed, named, apartAt};
+ghost use Rattle.strict.specs.Directory.{noPlaces, refusal, directory, Passed, NameLengths, named, apartAt};
 
 // The components' places and zeros after them, and their count; or a refusal's number and place, and zeros elsewhere.
 pub struct Directory {
@@ -81,15 +81,39 @@ fn pass_over(r: &[u8], align: usize) -> Pass
     }
 }
 
+// The lengths of the names of the components at the first n places. A name is then read without judging its header again for each comparison.
+fn name_lengths(r: &[u8], places: &[usize], n: usize) -> [usize; 256]
+    requires { ⌜ (n ≤ length (now places)) × (n ≤ 256) ⌝ }
+    ensures { λ l. ⌜ NameLengths (now (r .entry)) (now (places .entry)) n l ⌝ }
+{
+    let mut lengths = [0usize; 256];
+    let mut i = 0;
+    while i < n {
+        let p = places[i];
+        let name = component::name(number::rest(r, p));
+        lengths[i] = name.len();
+        i += 1;
+    }
+    lengths
+}
+
 // One of the components at the places from `from` up to `to` bears the name.
-fn any_named(r: &[u8], places: &[usize], from: usize, to: usize, name: &[u8]) -> bool
-    requires { ⌜ (from ≤ to) × (to ≤ length (now places)) ⌝ }
+fn any_named(
+    r: &[u8],
+    places: &[usize],
+    lengths: &[usize],
+    from: usize,
+    to: usize,
+    name: &[u8],
+) -> bool
+    requires { ⌜ (from ≤ to) × (to ≤ length (now places)) × (to ≤ 256) × NameLengths (now r) (now places) to (now lengths) ⌝ }
     ensures { λ b. ⌜ b ≡ any (named (now (r .entry)) (now (name .entry))) (take (to - from) (drop from (now (places .entry)))) ⌝ }
 {
     let mut k = from;
     while k < to {
         let p = places[k];
-        if number::equal(component::name(number::rest(r, p)), name) {
+        let m = lengths[k];
+        if number::equal(number::part(number::rest(r, p), 24, m), name) {
             return true;
         }
         k += 1;
@@ -99,13 +123,16 @@ fn any_named(r: &[u8], places: &[usize], from: usize, to: usize, name: &[u8]) ->
 
 // No two of the components at the first n places have the same name.
 fn apart(r: &[u8], places: &[usize], n: usize) -> bool
-    requires { ⌜ n ≤ length (now places) ⌝ }
+    requires { ⌜ (n ≤ length (now places)) × (n ≤ 256) ⌝ }
     ensures { λ b. ⌜ b ≡ apartAt (now (r .entry)) (take n (now (places .entry))) ⌝ }
 {
+    let lengths = name_lengths(r, places, n);
     let mut i = 0;
     while i < n {
         let p = places[i];
-        if any_named(r, places, i + 1, n, component::name(number::rest(r, p))) {
+        let m = lengths[i];
+        let name = number::part(number::rest(r, p), 24, m);
+        if any_named(r, places, &lengths, i + 1, n, name) {
             return false;
         }
         i += 1;

@@ -6,7 +6,7 @@ use borrow.Author.Needs.{needs}
 use Rattle.component.proofs.fields.Statement.{statement}
 use Rattle.component.proofs.fields.Tie as tie
 
--- the place after the two numbers were read, and the function's start
+-- the place after the first two numbers were read, and the function's start
 abbrev start : tie.After-be322 → tie.Start
 start c = c .before .before .before .before
 
@@ -26,16 +26,19 @@ be32-requires-2 c κs = search needs
 cast-len : tie.Need-cast-len
 cast-len c = search needs
 
+be32-requires-3 : tie.Need-be32-requires-3
+be32-requires-3 c κs = search needs
+
 returns-2 : tie.Need-returns-2
 unfolding headerTests
 returns-2 c =
-    let r = c .before in
+    let r = c .before .before in
     (fields-bad (start r .args .s .now) _ _ 1 (r .before .be32 .ensures .0) (r .be322 .ensures .0) (lt-leb _ _ (c .if2 .taken)), refl)
 
 returns-3 : tie.Need-returns-3
 unfolding headerTests
 returns-3 c =
-    let r = c .before .before in
+    let r = c .before .before .before in
     (fields-bad (start r .args .s .now) _ _ 2 (r .before .be32 .ensures .0) (r .be322 .ensures .0) (lt-leb _ _ (c .if3 .taken)), refl)
 
 sub-if4 : tie.Need-sub-if4
@@ -44,7 +47,7 @@ sub-if4 c = search needs
 returns-4 : tie.Need-returns-4
 unfolding headerTests
 returns-4 c =
-    let r = c .before .before .before in
+    let r = c .before .before .before .before in
     (fields-bad (start r .args .s .now) _ _ 3 (r .before .be32 .ensures .0) (r .be322 .ensures .0) (ne-eqb _ _ (c .if4 .taken)), refl)
 
 add-if5 : tie.Need-add-if5
@@ -53,7 +56,7 @@ add-if5 c = search needs
 returns-5 : tie.Need-returns-5
 unfolding headerTests
 returns-5 c =
-    let r = c .before .before .before .before in
+    let r = c .before .before .before .before .before in
     (fields-bad (start r .args .s .now) _ _ 4 (r .before .be32 .ensures .0) (r .be322 .ensures .0) (lt-leb _ _ (c .if5 .taken)), refl)
 
 sub-name-length : tie.Need-sub-name-length
@@ -72,27 +75,25 @@ returns-6 : tie.Need-returns-6
 unfolding headerTests
 returns-6 c =
     let n = c .before in
-    let r = n .before .before .before .before .before .before in
+    let r = n .before .before .before .before .before .before .before in
     (fields-bad (start r .args .s .now) (r .before .be32 .result) (r .be322 .result) 5 (r .before .be32 .ensures .0) (r .be322 .ensures .0) (length-zero _ (sym (n .name-length .ensures .0) ∙ c .if6 .taken)), refl)
-
-be32-requires-3 : tie.Need-be32-requires-3
-be32-requires-3 c κs = search needs
 
 returns-7 : tie.Need-returns-7
 unfolding headerTests
 returns-7 c =
-    let n = c .before .before in
+    let n = c .before in
     let i5 = n .before .before in
-    let r = i5 .before .before .before .before in
+    let k = i5 .before .before .before .before in
+    let r = k .before in
     let s = start r .args .s .now in (
-      fields-good s _ (r .before .be32 .ensures .0) (r .be322 .ensures .0) (c .be323 .ensures .0) (n .name-length .ensures .0)
+      fields-good s _ (r .before .be32 .ensures .0) (r .be322 .ensures .0) (k .be323 .ensures .0) (n .name-length .ensures .0)
           (rw (
             le-leb _ _ (r .before .before .if1 .left),
             le-leb _ _ (i5 .before .before .before .if2 .left),
             le-leb _ _ (i5 .before .before .if3 .left),
             eq-eqb _ _ (i5 .before .if4 .left),
             le-leb _ _ (i5 .if5 .left),
-            length-pos _ _ (n .name-length .ensures .0) (c .before .if6 .left),
+            length-pos _ _ (n .name-length .ensures .0) (c .if6 .left),
           )),
       refl,
     )
@@ -106,6 +107,7 @@ fields-spec =
     cast-offset
     be32-requires-2
     cast-len
+    be32-requires-3
     returns-2
     returns-3
     sub-if4
@@ -117,5 +119,4 @@ fields-spec =
     part-name-length-end
     name-length-requires
     returns-6
-    be32-requires-3
     returns-7)

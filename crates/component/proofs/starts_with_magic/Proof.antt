@@ -1,6 +1,7 @@
+use native.Mathlib.Omega.{arith}
 use mathlib.Core.Path.{sym, refl}
-use Rattle.component.specs.Component.{startsWithMagic, magic}
-use Rattle.component.proofs.Judging.{short-no-magic}
+use Rattle.component.specs.Component.{magic}
+use Rattle.component.proofs.Judging.{short-no-magic, magic-number}
 use borrow.Author.Needs.{needs}
 use Rattle.component.proofs.starts_with_magic.Statement.{statement}
 use Rattle.component.proofs.starts_with_magic.Tie as tie
@@ -8,33 +9,22 @@ use Rattle.component.proofs.starts_with_magic.Tie as tie
 returns : tie.Need-returns
 returns c = (sym (short-no-magic (c .before .before .args .s .now) (c .if1 .taken)), refl)
 
-sub-equal : tie.Need-sub-equal
-sub-equal c = search needs
+be64-requires : tie.Need-be64-requires
+be64-requires c κs = search needs
 
-part-equal-start : tie.Need-part-equal-start
-part-equal-start c = search needs
+slice-aggregate-be64 : tie.Need-slice-aggregate-be64
+slice-aggregate-be64 c = search needs
 
-part-equal-end : tie.Need-part-equal-end
-part-equal-end c = search needs
-
-slice-aggregate-equal : tie.Need-slice-aggregate-equal
-slice-aggregate-equal c = search needs
-
-equal-requires : tie.Need-equal-requires
-equal-requires c κs = search needs
+be64-requires-2 : tie.Need-be64-requires-2
+be64-requires-2 c κs = search needs
 
 returns-2 : tie.Need-returns-2
-unfolding startsWithMagic magic
-returns-2 c = (c .equal .ensures .0, refl)
+unfolding magic
+returns-2 c =
+    let e = c .before .before .before in
+    let s = e .before .before .args .s .now in
+    (rw (c .before .before .be64 .ensures .0, c .be642 .ensures .0) (magic-number s (e .if1 .left) (λ j. omega (arith, e .before .shared-slice-known .given j))), refl)
 
 pub starts-with-magic-spec : {M : Type 1} → statement M
 starts-with-magic-spec =
-    tie.close
-    (tie.spec
-    returns
-    sub-equal
-    part-equal-start
-    part-equal-end
-    slice-aggregate-equal
-    equal-requires
-    returns-2)
+    tie.close (tie.spec returns be64-requires slice-aggregate-be64 be64-requires-2 returns-2)

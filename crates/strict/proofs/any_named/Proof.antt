@@ -10,10 +10,10 @@ use Rattle.strict.proofs.any_named.Statement.{statement}
 use Rattle.strict.proofs.any_named.Tie as tie
 
 abbrev Inv-loop : tie.InvT-loop
-Inv-loop r places from to name k₀ k = (from ≤ k) × (any (named r name) (take (to - from) (drop from places)) ≡ any (named r name) (take (to - k) (drop k places)))
+Inv-loop r places lengths from to name k₀ k = (from ≤ k) × (any (named r name) (take (to - from) (drop from places)) ≡ any (named r name) (take (to - k) (drop k places)))
 
 abbrev μ-loop : tie.MeasureT-loop
-μ-loop r places from to name k₀ k = to - k
+μ-loop r places lengths from to name k₀ k = to - k
 
 loop-holds : tie.Need-loop-holds Inv-loop μ-loop
 loop-holds c = (omega arith, refl)
@@ -24,25 +24,34 @@ mul-p c = search needs
 shared-slice-read-p : tie.Need-shared-slice-read-p Inv-loop μ-loop
 shared-slice-read-p c = search needs
 
+mul-m : tie.Need-mul-m Inv-loop μ-loop
+mul-m c = search needs
+
+shared-slice-read-m : tie.Need-shared-slice-read-m Inv-loop μ-loop
+shared-slice-read-m c = search needs
+
 rest-requires : tie.Need-rest-requires Inv-loop μ-loop
 rest-requires c κs = search needs
 
-name-requires : tie.Need-name-requires Inv-loop μ-loop
-name-requires c κs = search needs
+part-requires : tie.Need-part-requires Inv-loop μ-loop
+part-requires c κs = search needs
 
 equal-requires : tie.Need-equal-requires Inv-loop μ-loop
 equal-requires c κs = search needs
 
 -- the places where the paths begin
 abbrev loop : tie.After-equal Inv-loop μ-loop → tie.At-loop Inv-loop μ-loop
-loop c = c .before .before .before .before .before
+loop c = c .before .before .before .before .before .before
 
 abbrev start : tie.At-loop Inv-loop μ-loop → tie.Start Inv-loop μ-loop
-start c = c .before .before .before .before
+start c = c .before .before .before .before .before
 
 -- what the comparison says of the component at the place k
 said : (c : tie.After-equal Inv-loop μ-loop) → named (start (loop c) .args .r .now) (start (loop c) .args .name .now) (getD (start (loop c) .args .places .now) (loop c .loop .k) 0) ≡ c .equal .result
-said c = named-said (start (loop c) .args .r .now) (start (loop c) .args .name .now) _ (c .before .before .rest .ensures .0) (c .before .name .ensures .0) (c .equal .ensures .0)
+said c =
+    let l = loop c in
+    let s = start l in
+    named-said (s .args .r .now) (s .args .name .now) _ (c .before .before .rest .ensures .0) (s .pre .3 .each (l .loop .k) (omega arith)) (c .before .part .ensures .0) (c .equal .ensures .0)
 
 returns : tie.Need-returns Inv-loop μ-loop
 returns c =
@@ -79,8 +88,10 @@ any-named-spec =
     loop-holds
     mul-p
     shared-slice-read-p
+    mul-m
+    shared-slice-read-m
     rest-requires
-    name-requires
+    part-requires
     equal-requires
     returns
     add-k

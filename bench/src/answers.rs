@@ -1,0 +1,101 @@
+// Compares the answers of both sides, at sizes that the probe cannot hold and on damaged images.
+use crate::images::{blank, put, Random, BOOTBLOCK};
+use crate::timing::{CALLS, SIDES};
+use std::sync::atomic::{AtomicUsize, Ordering};
+
+static COMPARED: AtomicUsize = AtomicUsize::new(0);
+
+pub fn compared() -> usize {
+    COMPARED.load(Ordering::Relaxed)
+}
+
+// How many of the five calls answer differently on an image.
+pub fn compare(label: &str, image: &[u8], name: &[u8]) -> usize {
+    let mut differing = 0;
+    for (call, [ours, plain]) in CALLS.iter().zip(SIDES) {
+        let (a, b) = (ours(image, name), plain(image, name));
+        COMPARED.fetch_add(1, Ordering::Relaxed);
+        if a != b {
+            println!("DIFFER: {label}, {} bytes, {call}: {a:#x} and {b:#x}", image.len());
+            differing += 1;
+        }
+    }
+    differing
+}
+
+// Up to `number` components at random places of a region, spans overlapping or passing the end now and then, and some bytes damaged.
+fn spoil(image: &mut [u8], random: &mut Random, number: usize, align: usize, start: usize, end: usize) {
+    let places = (end - start).div_ceil(align);
+    for _ in 0..number {
+        let place = start + random.below(places) * align;
+        if place + 40 > end {
+            continue;
+        }
+        let name = [b'a' + random.below(20) as u8, b'0' + random.below(10) as u8];
+        let room = end - place - 40;
+        let len = match random.below(8) {
+            0 => room,
+            1 => room + 1,
+            2 => random.below(room + 1),
+            _ => random.below(align.min(room + 1)),
+        };
+        put(image, place, &name, len);
+    }
+    for _ in 0..random.below(8) {
+        let place = start + random.below(places) * align;
+        let at = (place + random.below(40)).min(image.len() - 1);
+        image[at] = random.next() as u8;
+    }
+}
+
+// Lengths at both limits, a region of several places at align 65,536, and regions that end off align; each whole and damaged.
+fn large() -> usize {
+    let mut differing = 0;
+    let mut random = Random::new(11);
+    for length in [64, 63, 65_536 * 5 + 777, 16_777_215, 16_777_216, 16_777_217] {
+        for align in [16, 64, 4_096, 65_536] {
+            for bootblock in [BOOTBLOCK, 1_025, 36] {
+                if length < bootblock {
+                    continue;
+                }
+                let end = length - bootblock;
+                let start = (random.below(3) * align).min(end / align * align);
+                let mut image = blank(length, bootblock, align, start, 0xFF);
+                differing += compare("empty", &image, b"a1");
+                if start < end {
+                    spoil(&mut image, &mut random, 300, align, start, end);
+                    differing += compare("large", &image, b"a1");
+                }
+            }
+        }
+    }
+    differing
+}
+
+// Small images of every geometry, with damage to the region and now and then to the master header.
+fn damaged(number: usize) -> usize {
+    let mut differing = 0;
+    let mut random = Random::new(13);
+    for _ in 0..number {
+        let align = 16 << random.below(13);
+        let length = 64 + random.below(12 * align.max(400));
+        let bootblock = (36 + random.below(64)).min(length);
+        let end = length - bootblock;
+        let start = (random.below(3) * align).min(end / align * align);
+        let mut image = blank(length, bootblock, align, start, [0, 0xFF][random.below(2)]);
+        if start < end {
+            let components = random.below(12);
+            spoil(&mut image, &mut random, components, align, start, end);
+        }
+        if random.below(4) == 0 {
+            let at = length - 1 - random.below(36);
+            image[at] = random.next() as u8;
+        }
+        differing += compare("damaged", &image, &[b'a' + random.below(20) as u8, b'0' + random.below(10) as u8]);
+    }
+    differing
+}
+
+pub fn special() -> usize {
+    large() + damaged(40_000)
+}

@@ -1,0 +1,42 @@
+// Times both sides on one image: interleaved runs, of which the least counts.
+use crate::{ours, plain};
+use std::hint::black_box;
+use std::time::Instant;
+
+pub const CALLS: [&str; 5] = ["plain listing", "guarded listing", "plain lookup", "guarded lookup", "strict check"];
+
+pub type Call = fn(&[u8], &[u8]) -> u64;
+
+// Both sides of each call, in the order of CALLS.
+pub const SIDES: [[Call; 2]; 5] = [
+    [|i, _| ours::plain_count(i), |i, _| plain::plain_count(i)],
+    [|i, _| ours::guarded_count(i), |i, _| plain::guarded_count(i)],
+    [ours::plain_place, plain::plain_place],
+    [ours::guarded_place, plain::guarded_place],
+    [|i, _| ours::strict_count(i), |i, _| plain::strict_count(i)],
+];
+
+// The time that a call takes on the images in turn, in nanoseconds.
+fn run(call: Call, images: &[Vec<u8>], name: &[u8], times: usize) -> f64 {
+    let began = Instant::now();
+    for k in 0..times {
+        black_box(call(black_box(&images[k % images.len()]), black_box(name)));
+    }
+    began.elapsed().as_nanos() as f64 / times as f64
+}
+
+// The least time of a call on each side. The sides take turns, and each begins as often as the other.
+// A run goes over all images, and a quick call is repeated within it, for some 50 microseconds.
+pub fn least(sides: [Call; 2], images: &[Vec<u8>], name: &[u8], runs: usize) -> [f64; 2] {
+    let round = run(sides[0], images, name, images.len());
+    let times = (50_000.0 / round).clamp(1.0, 500.0) as usize / images.len();
+    let times = times.max(1) * images.len();
+    let mut least = [f64::INFINITY; 2];
+    for k in 0..runs {
+        for turn in 0..2 {
+            let side = (k + turn) % 2;
+            least[side] = least[side].min(run(sides[side], images, name, times));
+        }
+    }
+    least
+}
