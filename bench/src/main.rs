@@ -35,17 +35,20 @@ fn main() -> ExitCode {
             let images = vec![case.image; COPIES / mib];
             for (sides, times) in SIDES.into_iter().zip(row) {
                 times.same[size] = timing::least(sides, &images[..1], &case.name, runs);
-                times.turn[size] = timing::least(sides, &images, &case.name, runs / 5);
+                times.turn[size] = timing::least(sides, &images, &case.name, runs / 2);
             }
         }
     }
     let missed = report(&labels, &times);
     println!("answers: {} compared, {differing} differ", answers::compared());
-    println!("goals: {QUOTIENT} times plain Rust, {GROWTH} times from 1 to 16 MiB: {missed} missed");
+    println!(
+        "goals at 16 MiB: {QUOTIENT} times plain Rust, {GROWTH} times the time at 1 MiB: missed by {missed} of {}",
+        labels.len() * CALLS.len()
+    );
     ExitCode::from(u8::from(differing > 0))
 }
 
-// The table, in microseconds. Answers how many goals were missed.
+// The table, in microseconds. Answers how many lines of it miss a goal.
 fn report(labels: &[&str], times: &[[Times; CALLS.len()]]) -> usize {
     let mut missed = 0;
     println!("| image | call | ours, 1 MiB | 4 MiB | 16 MiB | plain Rust, 16 MiB | quotients | growth | of plain Rust | goals |");
@@ -55,15 +58,19 @@ fn report(labels: &[&str], times: &[[Times; CALLS.len()]]) -> usize {
             let [one, four, all] = t.same.map(|[ours, _]| ours / 1000.0);
             let quotients = t.same.map(|[ours, plain]| ours / plain);
             let growth = [0, 1].map(|side| t.turn[2][side] / t.turn[0][side]);
-            let faults = quotients.iter().filter(|q| **q > QUOTIENT).count() + usize::from(growth[0] > GROWTH);
-            let goals = if faults == 0 { "met" } else { "MISSED" };
+            let goals = match (quotients[2] > QUOTIENT, growth[0] > GROWTH) {
+                (false, false) => "met",
+                (true, false) => "quotient MISSED",
+                (false, true) => "growth MISSED",
+                (true, true) => "both MISSED",
+            };
+            missed += usize::from(goals != "met");
             let quotients = quotients.map(|q| format!("{q:.2}")).join(", ");
             let plain = t.same[2][1] / 1000.0;
             println!(
                 "| {label} | {call} | {one:.2} | {four:.2} | {all:.2} | {plain:.2} | {quotients} | {:.1} | {:.1} | {goals} |",
                 growth[0], growth[1]
             );
-            missed += faults;
         }
     }
     missed
