@@ -25,7 +25,7 @@ struct Times {
 
 fn main() -> ExitCode {
     let quick = std::env::args().nth(1).is_some_and(|word| word == "quick");
-    let runs = if quick { 10 } else { 100 };
+    let runs = if quick { 10 } else { 200 };
     let mut differing = answers::special();
     let labels: Vec<&str> = images::cases(1).iter().map(|case| case.label).collect();
     let mut times = vec![[Times::default(); CALLS.len()]; labels.len()];
