@@ -5,7 +5,7 @@ use mathlib.Core.Path.{_≡_, refl, ap, _∙_}
 use mathlib.Core.List.{List, [], _∷_}
 use mathlib.Core.Bool.{Bool, true, false}
 use borrow.Author.Tests.{ne-eqb}
-use Rattle.walk.specs.Lists.{keep}
+use Rattle.number.specs.Lists.{keep}
 use Rattle.walk.specs.Walk.{Entry, plainListing, guardedListing}
 use Rattle.walk.specs.Lookup.{Answer, refused, gives, bears, foremost, only, lookupOf}
 use Rattle.walk.specs.declared.Taken.{Taken}

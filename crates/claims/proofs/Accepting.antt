@@ -15,7 +15,8 @@ use Rattle.terms.specs.declared.Refusal.{Refusal}
 use Rattle.master.specs.Master.{refusal, regionOf, master}
 use Rattle.master.specs.declared.Master.{Master}
 use Rattle.master.specs.declared.Master.the-variants.{Read, Refused}
-use Rattle.strict.specs.Strict.{limit, Accepted, Verdict, refused, accepted, placesOf, verdict, padded}
+use Rattle.number.specs.Lists.{padded}
+use Rattle.strict.specs.Strict.{limit, Accepted, Verdict, refused, accepted, placesOf, verdict}
 use Rattle.strict.specs.Directory.{directory}
 use Rattle.strict.proofs.Verdicts.{accepted-exactly, no-other}
 use Rattle.strict.proofs.Accepting.{walks-agree}
@@ -57,7 +58,7 @@ strict-check-accepts i = (λ z. go (master i) refl z, λ h. rw (h .1 .read, acce
 
 -- Then its directory has the plain listing's places, told from the image's start, and zeros after them; its count is the listing's length.
 pub strict-check-directory : (i : List ℕ) (g : Region) → AcceptedImage i g
-    → strictCheck i ≡ record { number = 0; place = 0; count = length (plainListing (bytesOf i g) (g .align)); places = padded limit (map (λ p. g .start + p) (placesOf (plainListing (bytesOf i g) (g .align)))) }
+    → strictCheck i ≡ record { number = 0; place = 0; count = length (plainListing (bytesOf i g) (g .align)); places = padded limit 0 (map (λ p. g .start + p) (placesOf (plainListing (bytesOf i g) (g .align)))) }
 strict-check-directory i g a = rw (a .read, accepted-exactly (bytesOf i g) (g .align) _ .1 (a .acc, refl), length-map (plainListing (bytesOf i g) (g .align)) (λ t. t .place))
 
 -- On accepted images both walks agree.

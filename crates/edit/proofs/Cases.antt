@@ -9,7 +9,7 @@ use Rattle.number.specs.Bytes.{eqBytes}
 use Rattle.number.specs.Tests.{all}
 use Rattle.component.specs.Names.{beforeZero, nameTests, nameFits, fieldTests, fieldFits}
 use Rattle.component.specs.Component.{magic, startsWithMagic, componentOf, headerTests, wellFormed, fields, judge}
-use Rattle.walk.specs.Lists.{any, keep}
+use Rattle.number.specs.Lists.{any, keep}
 use Rattle.walk.specs.Walk.{Entry, placesBelow, places, carries, buried, plain, orElse, first, onward, step, follow, steps, listingFrom, plainListing}
 use Rattle.walk.specs.Lookup.{bears}
 use Rattle.strict.specs.Strict.{takes, stray, strays, toldApart, Accepted}

@@ -10,7 +10,7 @@ use lib.ListN.{length}
 use lib.Dec.{ltb}
 use borrow.Author.Tests.{ltb-true, ltb-false}
 use Rattle.component.specs.Names.{nameFits}
-use Rattle.walk.specs.Lists.{any}
+use Rattle.number.specs.Lists.{any}
 use Rattle.walk.specs.Walk.{Entry, plainListing}
 use Rattle.walk.specs.Lookup.{bears}
 use Rattle.strict.specs.Strict.{Accepted, Verdict, refused, accepted, verdict, placesOf}

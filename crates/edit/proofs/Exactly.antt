@@ -10,7 +10,7 @@ use lib.ListN.{length}
 use lib.Dec.{eqb}
 use borrow.Author.Tests.{lt-ltb, le-ltb, eq-eqb, ne-eqb}
 use Rattle.component.specs.Names.{nameFits}
-use Rattle.walk.specs.Lists.{any}
+use Rattle.number.specs.Lists.{any}
 use Rattle.walk.specs.Walk.{Entry, end, plainListing, guardedListing}
 use Rattle.walk.specs.Lookup.{bears, gives}
 use Rattle.walk.proofs.Places.{Place, any-false}

@@ -14,7 +14,7 @@ use lib.Dec.{leb, ltb, lit<}
 use borrow.Author.Tests.{leb-true, ltb-true, le-leb, lt-leb, lt-ltb, le-ltb}
 use Rattle.number.proofs.SameBytes.{eq-true}
 use Rattle.component.specs.Component.{Component, span, magic, startsWithMagic}
-use Rattle.walk.specs.Lists.{keep}
+use Rattle.number.specs.Lists.{keep}
 use Rattle.walk.specs.Walk.{Entry, end, carries, plain, guarded, guardedListing}
 use Rattle.walk.proofs.Places.{Place}
 use Rattle.walk.proofs.Picks.{carries-fits, buried-false, buried-of, guarded-of, guarded-carries}

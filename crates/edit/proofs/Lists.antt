@@ -10,7 +10,7 @@ use lib.Dec.{ltb, eqb}
 use borrow.Author.Tests.{eqb-true, eq-eqb, ne-eqb, lt-ltb, le-ltb, not-true}
 use Rattle.number.specs.Bytes.{eqBytes}
 use Rattle.number.proofs.SameBytes.{eq-true, eq-refl}
-use Rattle.walk.specs.Lists.{any, keep}
+use Rattle.number.specs.Lists.{any, keep}
 use Rattle.walk.specs.Walk.{Entry}
 use Rattle.walk.specs.Lookup.{bears}
 use Rattle.walk.proofs.Places.{any-false, none-any, or-false}

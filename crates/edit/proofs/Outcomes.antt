@@ -9,7 +9,7 @@ use mathlib.Core.Option.{some}
 use lib.ListN.{length, getD}
 use lib.Dec.{eqb}
 use borrow.Author.Tests.{eq-eqb, ne-eqb}
-use Rattle.walk.specs.Lists.{keep}
+use Rattle.number.specs.Lists.{keep}
 use Rattle.walk.specs.Walk.{Entry, end, carries, plainListing, guardedListing}
 use Rattle.walk.specs.Lookup.{refused, gives, only, foremost, bears, plainLookup, guardedLookup}
 use Rattle.walk.proofs.Picks.{guarded-carries}

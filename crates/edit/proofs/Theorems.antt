@@ -14,7 +14,7 @@ use Rattle.number.specs.Number.{be}
 use Rattle.component.specs.Names.{nameFits}
 use Rattle.component.specs.Component.{Component, componentOf}
 use Rattle.component.proofs.Judging.{formed, judge-name}
-use Rattle.walk.specs.Lists.{any}
+use Rattle.number.specs.Lists.{any}
 use Rattle.walk.specs.Walk.{Entry, carries, buried, places, placesBelow, plainListing}
 use Rattle.walk.specs.Lookup.{bears}
 use Rattle.walk.proofs.Places.{Place, mem-places}

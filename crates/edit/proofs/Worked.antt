@@ -8,7 +8,7 @@ use lib.ListN.{replicate}
 use Rattle.number.specs.Number.{beBytes}
 use Rattle.number.specs.Bytes.{eqBytes, splice}
 use Rattle.component.specs.Component.{magic, startsWithMagic}
-use Rattle.walk.specs.Lists.{any}
+use Rattle.number.specs.Lists.{any}
 use Rattle.walk.specs.Walk.{Entry, placesBelow, places, carries, buried}
 use Rattle.edit.specs.Edit.{Run, holds, fieldSize, headerBytes, fieldBytes, spanBytes, buries, lowest, filled, clearing, write, done, carriedOut}
 

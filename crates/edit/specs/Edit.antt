@@ -10,7 +10,7 @@ use Rattle.number.specs.Number.{beBytes}
 use Rattle.number.specs.Bytes.{splice}
 use Rattle.component.specs.Component.{magic}
 use Rattle.component.specs.Names.{nameFits}
-use Rattle.walk.specs.Lists.{any, keep}
+use Rattle.number.specs.Lists.{any, keep}
 use Rattle.walk.specs.Walk.{Entry, buried, next, plainListing}
 use Rattle.walk.specs.Lookup.{bears}
 use Rattle.terms.specs.Refusals.{Test, test}

@@ -11,7 +11,7 @@ use lib.Seq.{take-append-le, drop-append-le, drop-drop, drop-at, getD-append-add
 use Rattle.number.specs.Number.{beBytes}
 use Rattle.number.proofs.SameBytes.{eq-refl}
 use Rattle.component.specs.Component.{magic, startsWithMagic}
-use Rattle.walk.specs.Lists.{any}
+use Rattle.number.specs.Lists.{any}
 use Rattle.walk.specs.Walk.{placesBelow, places, carries, nextMagic, buried}
 use Rattle.walk.proofs.Places.{Place, below-ge, below-lt, below-unique}
 use Rattle.walk.proofs.Picks.{carries-fits, buried-of}

@@ -10,7 +10,7 @@ use lib.ListN.{length}
 use lib.Dec.{eqb}
 use borrow.Author.Tests.{lt-leb, lt-ltb}
 use Rattle.component.specs.Names.{nameFits}
-use Rattle.walk.specs.Lists.{any}
+use Rattle.number.specs.Lists.{any}
 use Rattle.walk.specs.Walk.{Entry, next, plainListing, guardedListing}
 use Rattle.walk.specs.Lookup.{bears}
 use Rattle.walk.proofs.Members.{given}

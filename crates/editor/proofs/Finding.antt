@@ -6,7 +6,7 @@ use mathlib.Core.List.{List, [], _∷_, List·Memᴰ, List·Memᴰ·head, List·
 use mathlib.Core.Bool.{Bool, true, false, cond}
 use mathlib.Core.Option.{Option, some, none}
 use lib.ListN.{length}
-use Rattle.walk.specs.Lists.{any, keep}
+use Rattle.number.specs.Lists.{any, keep}
 use Rattle.walk.specs.Walk.{Entry, next, plain, step, listingFrom, plainListing, told, takenOf}
 use Rattle.walk.specs.Lookup.{refused, gives, bears, foremost, plainLookup, found}
 use Rattle.walk.specs.declared.Taken.{Taken}

@@ -10,7 +10,7 @@ ghost use Prim.Native.Nat.{ℕ, _+_, _-_, _≤_};
 ghost use lib.ListN.{length, replicate};
 ghost use lib.Dec.{ltb};
 ghost use Rattle.number.specs.Bytes.{splice};
-ghost use Rattle.walk.specs.Lists.{any};
+ghost use Rattle.number.specs.Lists.{any};
 ghost use Rattle.walk.specs.Walk.{nextMagic, plain, listingFrom, plainListing};
 ghost use Rattle.walk.specs.Lookup.{bears};
 ghost use Rattle.terms.specs.Terms.{bytesOf, refusedBy};

@@ -14,7 +14,7 @@ use Rattle.number.specs.Tests.{every, all}
 use Rattle.number.proofs.Passing.{passes}
 use Rattle.number.proofs.SameBytes.{eq-true, eq-refl}
 use Rattle.terms.specs.Refusals.{Test, test, firstFailed}
-use Rattle.fmap.specs.Lists.{any, noTwo}
+use Rattle.number.specs.Lists.{any, noTwo}
 use Rattle.fmap.specs.Signatures.{signatures, firstOr}
 use Rattle.fmap.specs.Names.{isPrintable, printed, nameTests, nameFits, nameOf, nameAt}
 use Rattle.fmap.specs.Fmap.{nareas, mapEnd, areasOf, endOf, bears, sameName, extentFits, disjoint, holds, cross, ownName, ownTests, holdsMap, signatureTests, headerTests, areaTests, turnTests, wholeTests, testsAt, tests, unused, padded, mapOf, refused, answer, fmapBy, fmap}

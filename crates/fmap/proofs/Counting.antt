@@ -7,7 +7,7 @@ use mathlib.Core.List.{List, [], _∷_, _++_, append-assoc}
 use lib.ListN.{length, set, replicate, length-append}
 use lib.Seq.{set-at}
 use Rattle.terms.specs.Refusals.{firstFailed}
-use Rattle.fmap.specs.Lists.{any, noTwo}
+use Rattle.number.specs.Lists.{any, noTwo}
 use Rattle.fmap.specs.Fmap.{areaAt, areasAt, areaTests, turnTests, unused, padded}
 use Rattle.fmap.specs.declared.Area.{Area}
 use Rattle.terms.proofs.Orders.{numbered, first-here, first-later}

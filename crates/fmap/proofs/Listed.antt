@@ -7,7 +7,7 @@ use mathlib.Core.Logic.{_⊎_, inl, inr}
 use mathlib.Core.Bool.{Bool, true, false, cond, true≢false, false≢true}
 use mathlib.Core.List.{List, [], _∷_, List·Memᴰ, List·Memᴰ·head, List·Memᴰ·tail, List·Memᴰ·not-nil, List·Memᴰ·cases-cons, Memᴰ·cast}
 use lib.ListN.{length, drop, getD, length-drop}
-use Rattle.fmap.specs.Lists.{any, noTwo}
+use Rattle.number.specs.Lists.{any, noTwo}
 use Rattle.fmap.specs.Signatures.{signedAt, signaturesFrom}
 use Rattle.fmap.proofs.Signing.{signed-short, signs-here, signs-not, signs-end, by-places}
 

@@ -9,7 +9,7 @@ use lib.Dec.{leb}
 use borrow.Author.Tests.{leb-true, lt-leb, le-leb, eq-eqb, ne-eqb}
 use Rattle.number.proofs.Passing.{passes}
 use Rattle.terms.specs.Refusals.{Test, test, firstFailed}
-use Rattle.fmap.specs.Lists.{any, noTwo}
+use Rattle.number.specs.Lists.{any, noTwo}
 use Rattle.fmap.specs.Signatures.{signatures, found}
 use Rattle.fmap.specs.Fmap.{minor, base, nareas, mapEnd, areasAt, areasOf, sameName, cross, holdsMap, countFits, signatureTests, headerTests, areaTests, turnTests, wholeTests, testsAt, tests, unused, padded, mapOf, refused, answer, mapAt, fmapBy, fmap}
 use Rattle.terms.specs.Refusals.{lengthFits}

@@ -8,7 +8,7 @@ use lib.Dec.{eqb}
 use Rattle.number.specs.Number.{le, leBytes}
 use Rattle.number.specs.Bytes.{eqBytes}
 use Rattle.number.specs.Tests.{every}
-use Rattle.fmap.specs.Lists.{any, noTwo}
+use Rattle.number.specs.Lists.{any, noTwo}
 use Rattle.fmap.specs.Signatures.{signature, signed, signedAt, placesFrom, signaturesAt, signaturesFrom}
 use Rattle.fmap.specs.Names.{printed, nameTests, nameFits, nameOf}
 use Rattle.fmap.specs.Fmap.{areaAt, areasAt, countFits, bears, extentFits, disjoint, holds, cross, ownName, ownTests, holdsMap, signatureTests, headerTests, areaTests, turnTests, wholeTests, testsAt, tests, unused, padded, mapOf, refused, answer, fmapBy, fmap}

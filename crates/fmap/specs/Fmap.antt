@@ -9,7 +9,7 @@ use Rattle.number.specs.Number.{le}
 use Rattle.number.specs.Bytes.{eqBytes}
 use Rattle.number.specs.Tests.{every}
 use Rattle.terms.specs.Refusals.{Test, test, firstFailed, lengthFits}
-use Rattle.fmap.specs.Lists.{any, noTwo}
+use Rattle.number.specs.Lists.{any, noTwo}
 use Rattle.fmap.specs.Signatures.{signatures, firstOr}
 use Rattle.fmap.specs.Names.{nameFits, nameAt}
 use Rattle.fmap.specs.declared.Area.{Area}

@@ -1,4 +1,3 @@
-pub mod Lists
 pub mod Signatures
 pub mod Names
 pub mod Fmap

@@ -4,7 +4,7 @@ ghost use Prim.Native.Nat.{_+_, _*_, _-_, _≤_, _<_, _^_, min};
 ghost use lib.ListN.{length};
 ghost use lib.Dec.{leb};
 ghost use Rattle.terms.specs.Refusals.{firstFailed};
-ghost use Rattle.fmap.specs.Lists.{any, noTwo};
+ghost use Rattle.number.specs.Lists.{any, noTwo};
 ghost use Rattle.fmap.specs.Signatures.{signed as signedOf, signatures as signaturesOf, signaturesFrom, firstOr, found};
 ghost use Rattle.fmap.specs.Names.{printed as printedOf, nameOf, nameAt};
 ghost use Rattle.fmap.specs.Fmap.{areaAt, areasAt, areasOf, countFits, bears as bearsOf, sameName, extentFits, disjoint as disjointOf, holds as holdsOf, cross as crossOf, holdsMap, mapEnd, nareas, headerTests, areaTests, turnTests, wholeTests, testsAt, padded, unused as unusedOf, mapOf, refused as refusedOf, mapAt, fmap};

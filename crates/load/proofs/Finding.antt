@@ -9,7 +9,7 @@ use lib.Seq.{length-take-le, getD-take, drop-drop}
 use Rattle.number.specs.Bytes.{partOf}
 use Rattle.number.proofs.Splice.{part-in}
 use Rattle.component.proofs.Judging.{judge-content, window}
-use Rattle.walk.specs.Lists.{keep}
+use Rattle.number.specs.Lists.{keep}
 use Rattle.walk.specs.Walk.{Entry, guardedListing}
 use Rattle.walk.specs.Lookup.{Answer, refused, gives, bears, only, lookupOf}
 use Rattle.walk.specs.declared.Taken.{Taken}

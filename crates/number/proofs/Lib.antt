@@ -3,3 +3,4 @@ pub mod SameBytes
 pub mod Overwrite
 pub mod Splice
 pub mod Passing
+pub mod Padding

@@ -7,7 +7,7 @@ use Rattle.number.specs.Bytes.{partOf, eqBytes, splice}
 use Rattle.number.specs.Tests.{all}
 use Rattle.component.specs.Names.{nameTests, nameFits, beforeZero, fieldTests, fieldFits}
 use Rattle.component.specs.Component.{magic, startsWithMagic, componentOf, headerTests, wellFormed, fields, judge}
-use Rattle.walk.specs.Lists.{any, keep}
+use Rattle.number.specs.Lists.{any, keep}
 use Rattle.walk.specs.Walk.{placesBelow, places, carries, buried, plain, unless, guarded, orElse, first, step, onward, follow, steps, listingFrom}
 use Rattle.terms.specs.Refusals.{lengthFits}
 use Rattle.terms.specs.Terms.{bytesOf}

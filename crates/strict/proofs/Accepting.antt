@@ -13,7 +13,7 @@ use lib.ListN.{length}
 use lib.Dec.{eqb}
 use borrow.Author.Tests.{eqb-true, eq-eqb, not-false}
 use Rattle.component.specs.Component.{span}
-use Rattle.walk.specs.Lists.{keep}
+use Rattle.number.specs.Lists.{keep}
 use Rattle.walk.specs.Walk.{Entry, end, placesBelow, places, carries, plain, guarded, plainListing, guardedListing, allFrom}
 use Rattle.walk.specs.Lookup.{only, bears, plainLookup, guardedLookup}
 use Rattle.walk.proofs.Places.{Place, mem-places}

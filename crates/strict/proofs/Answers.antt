@@ -5,15 +5,17 @@ use native.Mathlib.Omega.{arith}
 use mathlib.Core.Path.{_≡_, refl, sym, ap, _∙_}
 use mathlib.Core.Bool.{true, false}
 use mathlib.Core.List.{List, [], _∷_, _++_, map, List·Memᴰ, List·Memᴰ·head, List·Memᴰ·tail}
-use lib.ListN.{length, take, drop, getD, length-map, length-append, length-replicate, List·getD-append}
+use lib.ListN.{length, take, drop, getD, length-map, length-append, length-replicate}
+use Rattle.number.specs.Lists.{padded}
+use Rattle.number.proofs.Padding.{padded-take, padded-nth}
 use Rattle.walk.specs.Walk.{Entry, plainListing}
 use Rattle.walk.proofs.Members.{given}
-use Rattle.strict.specs.Strict.{limit, toldApart, placesOf, verdict, padded}
+use Rattle.strict.specs.Strict.{limit, toldApart, placesOf, verdict}
 use Rattle.strict.specs.Directory.{refusal, directory, Passed, apartAt}
 use Rattle.strict.specs.declared.Directory.{Directory}
 use Rattle.strict.specs.declared.Pass.{Pass}
 use Rattle.strict.proofs.Verdicts.{refused-13, refused-11, accepted-exactly}
-use Rattle.strict.proofs.Directories.{fill-padded, padded-used, apart-told, told-padded}
+use Rattle.strict.proofs.Directories.{fill-padded, apart-told, told-padded}
 
 small : (m : ℕ) (l : List Entry) → ((e : Entry) → List·Memᴰ e l → e .place < m) → (k : ℕ) → k < length l → getD (placesOf l) k 0 < m
 small m [] h k q = absurd (omega arith)
@@ -31,14 +33,14 @@ module _ (r : List ℕ) (a s : ℕ) (p : Pass) (says : Passed r a p) where
         e ∙ ap (directory s) (sym (refused-13 limit r a .1 (c .0, omega (arith, m, c .1))))
 
     module _ (few : p .count ≤ limit) where
-      places-are : p .places ≡ padded limit (placesOf (plainListing r a))
+      places-are : p .places ≡ padded limit 0 (placesOf (plainListing r a))
       places-are = let c = says .clean clear in c .2 ∙ fill-padded (plainListing r a) (omega (arith, few, c .1))
 
       counted : p .count ≡ length (placesOf (plainListing r a))
       counted = says .clean clear .1 ∙ sym (length-map (plainListing r a) (λ t. t .place))
 
       in-use : take (p .count) (p .places) ≡ placesOf (plainListing r a)
-      in-use = rw (places-are, counted) (padded-used limit (placesOf (plainListing r a)))
+      in-use = rw (places-are, counted) (padded-take limit 0 (placesOf (plainListing r a)) _ refl)
 
       pub places-long : length (p .places) ≡ limit
       unfolding padded
@@ -53,11 +55,10 @@ module _ (r : List ℕ) (a s : ℕ) (p : Pass) (says : Passed r a p) where
           e ∙ ap (directory s) (sym (refused-11 limit r a .1 (c .0, omega (arith, few, c .1), t)))
 
       pub place-inside : (k : ℕ) → k < p .count → getD (p .places) k 0 < length r
-      unfolding padded
       place-inside k h =
           let l : k < length (placesOf (plainListing r a)) = omega (arith, counted) in
           let n : k < length (plainListing r a) = omega (arith, h, says .clean clear .1) in
-          let g : getD (p .places) k 0 ≡ getD (placesOf (plainListing r a)) k 0 = ap (λ (x : List ℕ). getD x k 0) places-are ∙ List·getD-append (placesOf (plainListing r a)) _ 0 k l in
+          let g : getD (p .places) k 0 ≡ getD (placesOf (plainListing r a)) k 0 = ap (λ (x : List ℕ). getD x k 0) places-are ∙ padded-nth limit 0 (placesOf (plainListing r a)) k l in
           omega (arith, g, small (length r) (plainListing r a) (λ e m. given false r a e m .inside) k n)
 
       pub answer-accepted : (t : List ℕ) → toldApart (plainListing r a) ≡ true → t ≡ map (λ q. s + q) (take (p .count) (p .places)) ++ drop (p .count) (p .places)

@@ -9,26 +9,17 @@ use mathlib.Core.List.{List, [], _∷_, _++_, map, append-assoc, List·Memᴰ, L
 use mathlib.Core.Bool.{Bool, true, false, cond}
 use mathlib.Core.Option.{Option, some, none}
 use lib.ListN.{length, take, drop, getD, set, replicate, length-map, length-append, length-set}
-use lib.Seq.{getD-set-same, getD-set-other, take-suc, drop-cons, set-at, getD-at, length-take-le, take-append-seam, drop-append-seam}
+use lib.Seq.{getD-set-same, getD-set-other, take-suc, drop-cons, set-at, getD-at, length-take-le}
 use Rattle.number.specs.Bytes.{fits, partOf, eqBytes}
+use Rattle.number.proofs.Padding.{padded-take, padded-drop}
 use Rattle.component.specs.Component.{Component, judge, judged, headerOf, nameOf}
 use Rattle.component.proofs.Judging.{part-name}
-use Rattle.walk.specs.Lists.{any}
+use Rattle.number.specs.Lists.{any, padded}
 use Rattle.walk.specs.Walk.{Entry, plainListing}
 use Rattle.walk.specs.Lookup.{bears}
 use Rattle.walk.proofs.Members.{given}
-use Rattle.strict.specs.Strict.{limit, toldApart, placesOf, padded}
+use Rattle.strict.specs.Strict.{limit, toldApart, placesOf}
 use Rattle.strict.specs.Directory.{noPlaces, fill, NameLengths, named, apartAt}
-
--- A directory: the places that are in use, and zeros after them.
-
-pub padded-used : (w : ℕ) (l : List ℕ) → take (length l) (padded w l) ≡ l
-unfolding padded
-padded-used w l = take-append-seam l (replicate (w - length l) 0)
-
-pub padded-unused : (w : ℕ) (l : List ℕ) → drop (length l) (padded w l) ≡ replicate (w - length l) 0
-unfolding padded
-padded-unused w l = drop-append-seam l (replicate (w - length l) 0)
 
 -- A window of a list, from k up to n.
 
@@ -109,7 +100,7 @@ unfolding fill
 fill-snoc d n [] t = rw add-zero
 fill-snoc d n (x ∷ l) t = fill-snoc (set d n (x .place)) (n + 1) l t ∙ ap (λ (k : ℕ). set (fill (set d n (x .place)) (n + 1) l) k (t .place)) (omega arith)
 
-pub fill-padded : (l : List Entry) → length l ≤ limit → fill noPlaces 0 l ≡ padded limit (placesOf l)
+pub fill-padded : (l : List Entry) → length l ≤ limit → fill noPlaces 0 l ≡ padded limit 0 (placesOf l)
 unfolding noPlaces padded
 fill-padded l h = filled [] limit 0 l refl h ∙ rw length-map
 
@@ -136,8 +127,8 @@ told-next s d i h =
     u ∙ sym (rw (add-one i, take-suc d i 0 h, map-snoc (λ p. s + p) (take i d) (getD d i 0)) (append-assoc m ((s + getD d i 0) ∷ []) (drop (suc i) d)))
 
 -- The directory of a listing, told from s.
-pub told-padded : (s : ℕ) (ps : List ℕ) → length ps ≤ limit → toldTo s (padded limit ps) (length ps) ≡ padded limit (map (λ p. s + p) ps)
-told-padded s ps h = rw (padded-used limit ps, padded-unused limit ps) (unfold padded in rw length-map)
+pub told-padded : (s : ℕ) (ps : List ℕ) → length ps ≤ limit → toldTo s (padded limit 0 ps) (length ps) ≡ padded limit 0 (map (λ p. s + p) ps)
+told-padded s ps h = rw (padded-take limit 0 ps (length ps) refl, padded-drop limit 0 ps) (unfold padded in rw length-map)
 
 -- What was read and compared at a place.
 

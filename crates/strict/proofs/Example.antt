@@ -14,7 +14,7 @@ use Rattle.number.specs.Bytes.{eqBytes}
 use Rattle.number.specs.Tests.{all}
 use Rattle.component.specs.Names.{nameTests, nameFits, beforeZero, fieldTests, fieldFits}
 use Rattle.component.specs.Component.{magic, startsWithMagic, componentOf, headerTests, wellFormed, fields, judge}
-use Rattle.walk.specs.Lists.{any, keep}
+use Rattle.number.specs.Lists.{any, keep}
 use Rattle.walk.specs.Walk.{Entry, placesBelow, places, carries, buried, plain, unless, guarded, orElse, first, step, onward, follow, steps, listingFrom, guardedListing}
 use Rattle.walk.specs.Lookup.{bears, only, gives, guardedLookup}
 use Rattle.strict.specs.Strict.{limit, takes, stray, strays, toldApart, Accepted, refused, accepted, decide, verdict}

@@ -10,7 +10,7 @@ use lib.ListN.{length, getD, drop}
 use borrow.Author.Tests.{not-true}
 use Rattle.component.specs.Component.{Component, span}
 use Rattle.component.proofs.Judging.{judge-local, window}
-use Rattle.walk.specs.Lists.{keep}
+use Rattle.number.specs.Lists.{keep}
 use Rattle.walk.specs.Walk.{Entry, placesBelow, places, carries, buried, plain, guarded, guardedListing, allFrom}
 use Rattle.walk.proofs.Places.{Place, mem-places}
 use Rattle.walk.proofs.Picks.{carries-local, buried-false, buried-of, guarded-plain, guarded-of, guarded-none, guarded-fits, guarded-listing}

@@ -9,7 +9,7 @@ use mathlib.Core.Bool.{Bool, true, false}
 use mathlib.Core.Option.{Option, some, none}
 use lib.ListN.{length}
 use Rattle.component.specs.Component.{Component}
-use Rattle.walk.specs.Lists.{keep}
+use Rattle.number.specs.Lists.{keep}
 use Rattle.walk.specs.Walk.{Entry, Pick, placesBelow, places, prepend, picked, allFrom}
 use Rattle.walk.proofs.Places.{Place, below-ge, below-lt, mem-places, places-mem}
 

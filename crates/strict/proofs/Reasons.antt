@@ -9,7 +9,7 @@ use mathlib.Core.Logic.{_↔_, _⊎_, inl, inr}
 use mathlib.Core.Bool.{Bool, true, false, cond, not, _&&_, _||_, true≢false, false≢true, and-false}
 use lib.ListN.{length}
 use borrow.Author.Tests.{not-true}
-use Rattle.walk.specs.Lists.{any, keep}
+use Rattle.number.specs.Lists.{any, keep}
 use Rattle.walk.specs.Walk.{Entry, placesBelow, places, carries, plain, plainListing}
 use Rattle.walk.specs.Lookup.{bears}
 use Rattle.walk.proofs.Places.{Place, mem-places}

@@ -12,7 +12,7 @@ use mathlib.Core.Option.{Option, some, none}
 use lib.ListN.{length, drop}
 use borrow.Author.Tests.{eq-eqb, ne-eqb}
 use Rattle.component.specs.Component.{Component, span, judge}
-use Rattle.walk.specs.Lists.{any, keep}
+use Rattle.number.specs.Lists.{any, keep}
 use Rattle.walk.specs.Walk.{Entry, placesBelow, places, carries, nextMagic, plain, step, onward, listingFrom}
 use Rattle.walk.proofs.Places.{Place, below-next, below-end, below-unique, mem-places}
 use Rattle.walk.proofs.Hunting.{no-places, next-end, next-here, next-not, next-above, next-carries, by-places}

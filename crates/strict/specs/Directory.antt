@@ -7,9 +7,9 @@ use lib.ListN.{length, getD, drop, set, replicate}
 use lib.Dec.{eqb}
 use Rattle.number.specs.Bytes.{eqBytes}
 use Rattle.component.specs.Component.{judge, nameOf}
-use Rattle.walk.specs.Lists.{any}
+use Rattle.number.specs.Lists.{any, padded}
 use Rattle.walk.specs.Walk.{Entry, plainListing}
-use Rattle.strict.specs.Strict.{limit, Verdict, refused, accepted, strays, verdict, padded}
+use Rattle.strict.specs.Strict.{limit, Verdict, refused, accepted, strays, verdict}
 use Rattle.strict.specs.declared.Directory.{Directory}
 use Rattle.strict.specs.declared.Pass.{Pass}
 
@@ -24,7 +24,7 @@ refusal n p = record { number = n; place = p; count = 0; places = noPlaces }
 -- The verdict on a region that begins at s, its places told from the image's start. Only 12 tells a place.
 abbrev pub directory : ℕ → Verdict → Directory
 directory s (refused n p) = refusal n (cond (eqb n 12) (s + p) 0)
-directory s (accepted ps) = record { number = 0; place = 0; count = length ps; places = padded limit (map (λ p. s + p) ps) }
+directory s (accepted ps) = record { number = 0; place = 0; count = length ps; places = padded limit 0 (map (λ p. s + p) ps) }
 
 -- The places of a listing, stored in d from n on; what does not fit is left out.
 unfoldable pub fill : List ℕ → ℕ → List Entry → List ℕ

@@ -1,12 +1,12 @@
 -- The strict check over a region's bytes r at the alignment a (document 01, "Components and the two walks"; refusals 12, 13, 11).
 use Prim.Native.Nat.{ℕ, _-_, _≤_}
 use mathlib.Core.Path.{_≡_}
-use mathlib.Core.List.{List, [], _∷_, _++_, map}
+use mathlib.Core.List.{List, [], _∷_, map}
 use mathlib.Core.Bool.{Bool, true, cond, not, _&&_}
 use mathlib.Core.Option.{Option, some, none}
-use lib.ListN.{length, replicate}
+use lib.ListN.{length}
 use lib.Dec.{ltb, eqb}
-use Rattle.walk.specs.Lists.{any, keep}
+use Rattle.number.specs.Lists.{any, keep}
 use Rattle.walk.specs.Walk.{Entry, placesBelow, places, allPlaces, carries, plain, listingFrom, plainListing}
 use Rattle.walk.specs.Lookup.{bears}
 
@@ -56,10 +56,6 @@ decide most [] l = cond (ltb most (length l)) (refused 13 0) (cond (toldApart l)
 -- What the strict check answers.
 unfoldable pub verdict : ℕ → List ℕ → ℕ → Verdict
 verdict most r a = decide most (strays r a) (plainListing r a)
-
--- The directory: w numbers, those that are not used 0.
-unfoldable pub padded : ℕ → List ℕ → List ℕ
-padded w l = l ++ replicate (w - length l) 0
 
 -- The same from the number n on: what the plain walk begun at n does not take of the places from n on.
 unfoldable pub straysFrom : List ℕ → ℕ → ℕ → List ℕ

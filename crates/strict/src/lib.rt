@@ -6,7 +6,7 @@ ghost use mathlib.Core.List.{_++_, map};
 ghost use mathlib.Core.Bool.{true};
 ghost use Prim.Native.Nat.{ℕ, _+_, _-_, _≤_, _<_};
 ghost use lib.ListN.{length, take, drop, getD, set};
-ghost use Rattle.walk.specs.Lists.{any};
+ghost use Rattle.number.specs.Lists.{any};
 ghost use Rattle.terms.specs.Terms.{bytesOf};
 ghost use Rattle.strict.specs.Strict.{limit, verdict};
 ghost use Rattle.strict.specs.Directory.{noPlaces, refusal, directory, Passed, NameLengths, named, apartAt};

@@ -6,7 +6,7 @@ use mathlib.Core.List.{List, [], _∷_, _++_, List·Memᴰ, List·Memᴰ·head, 
 use mathlib.Core.Logic.{_⊎_, inl, inr, _↔_}
 use mathlib.Core.Bool.{Bool, true, false, cond, true≢false}
 use Rattle.number.proofs.SameBytes.{eq-true, eq-refl}
-use Rattle.walk.specs.Lists.{keep}
+use Rattle.number.specs.Lists.{keep}
 use Rattle.walk.specs.Walk.{Entry}
 use Rattle.walk.specs.Lookup.{refused, gives, bears, foremost}
 

@@ -12,7 +12,7 @@ use borrow.Author.Tests.{lt-ltb, le-ltb}
 use Rattle.component.specs.Component.{startsWithMagic}
 use Rattle.component.proofs.Judging.{short-no-magic, magic-eight}
 use Rattle.number.proofs.Splice.{rest}
-use Rattle.walk.specs.Lists.{any}
+use Rattle.number.specs.Lists.{any}
 use Rattle.walk.specs.Walk.{placesBelow, places, carries, seek, nextMagic, buried}
 use Rattle.walk.proofs.Places.{below-lt, below-next, below-end, below-zero}
 

@@ -11,7 +11,7 @@ use Rattle.number.specs.Bytes.{partOf, eqBytes}
 use Rattle.number.proofs.Splice.{part-in}
 use Rattle.component.specs.Component.{Component, judge}
 use Rattle.component.proofs.Judging.{judge-fits, judge-name}
-use Rattle.walk.specs.Lists.{keep}
+use Rattle.number.specs.Lists.{keep}
 use Rattle.walk.specs.Walk.{Entry, end, plain, pickOf, step, next, takenOf, told}
 use Rattle.walk.specs.Lookup.{bears, bearersFrom, firstOf, foremost, only, found}
 use Rattle.walk.specs.declared.Taken.{Taken}

@@ -10,7 +10,7 @@ use mathlib.Core.Bool.{Bool, true, false, cond}
 use mathlib.Core.Option.{some}
 use lib.ListN.{length, drop}
 use Rattle.component.specs.Component.{judge}
-use Rattle.walk.specs.Lists.{keep}
+use Rattle.number.specs.Lists.{keep}
 use Rattle.walk.specs.Walk.{Entry, end, onward, next, pickOf, listing, plainListing, guardedListing, takenOf}
 use Rattle.walk.specs.Lookup.{Answer, refused, gives, bears, foremost, only, lookupOf, found}
 use Rattle.walk.specs.declared.Taken.{Taken}

@@ -4,7 +4,7 @@ use mathlib.Core.List.{List, [], _∷_}
 use mathlib.Core.Bool.{Bool, true, false}
 use mathlib.Core.Option.{Option, some, none}
 use Rattle.number.specs.Bytes.{eqBytes}
-use Rattle.walk.specs.Lists.{keep}
+use Rattle.number.specs.Lists.{keep}
 use Rattle.walk.specs.Walk.{Entry, Pick, listingFrom, plainListing, guardedListing, takenOf}
 use Rattle.walk.specs.declared.Found.{Found}
 use Rattle.walk.specs.declared.Found.the-variants.{At, Refused}

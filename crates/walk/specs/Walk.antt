@@ -6,7 +6,7 @@ use mathlib.Core.Bool.{Bool, true, false, cond}
 use mathlib.Core.Option.{Option, some, none}
 use lib.ListN.{length, drop}
 use Rattle.component.specs.Component.{Component, span, judge, startsWithMagic, headerOf}
-use Rattle.walk.specs.Lists.{any}
+use Rattle.number.specs.Lists.{any}
 use Rattle.walk.specs.declared.Taken.{Taken}
 use Rattle.walk.specs.declared.Step.{Step}
 use Rattle.walk.specs.declared.Step.the-variants.{Took, NoneLeft}

@@ -8,7 +8,7 @@ use native.Mathlib.Omega.{arith}
 use lib.ListN.{length}
 use borrow.Author.Tests.{not-true, not-false}
 use Rattle.component.specs.Names.{nameFits}
-use Rattle.walk.specs.Lists.{any}
+use Rattle.number.specs.Lists.{any}
 use Rattle.walk.specs.Walk.{plainListing}
 use Rattle.walk.specs.Lookup.{bears}
 use Rattle.edit.specs.Edit.{spanBytes, buries, freeRuns, lowest, adding}

@@ -3,7 +3,7 @@ use mathlib.Core.Path.{_≡_, sym, refl, ap, _∙_}
 use native.Mathlib.Omega.{arith}
 use mathlib.Core.List.{List}
 use lib.ListN.{length}
-use Rattle.fmap.specs.Lists.{any, noTwo}
+use Rattle.number.specs.Lists.{any, noTwo}
 use Rattle.fmap.specs.Fmap.{areasAt, bears as bearsOf, sameName}
 use Rattle.fmap.proofs.Counting.{two-here, two-not, two-end}
 use borrow.Author.Needs.{needs}

@@ -2,7 +2,7 @@ use Prim.Native.Nat.{_-_, _≤_}
 use mathlib.Core.Path.{_≡_, refl, sym, _∙_}
 use native.Mathlib.Omega.{arith}
 use lib.ListN.{take, drop, getD}
-use Rattle.walk.specs.Lists.{any}
+use Rattle.number.specs.Lists.{any}
 use Rattle.strict.specs.Directory.{named}
 use Rattle.strict.proofs.Directories.{any-here, any-on, any-end, named-said}
 use borrow.Author.Needs.{needs}

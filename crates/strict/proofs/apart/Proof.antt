@@ -5,7 +5,7 @@ use native.Mathlib.Nat.{sub-zero}
 use native.Mathlib.Omega.{arith}
 use lib.ListN.{take, drop, getD}
 use Rattle.component.specs.Component.{judge, nameOf}
-use Rattle.walk.specs.Lists.{any}
+use Rattle.number.specs.Lists.{any}
 use Rattle.strict.specs.Directory.{named, apartAt}
 use Rattle.strict.proofs.Directories.{apart-not, apart-on, apart-end, name-said}
 use borrow.Author.Needs.{needs}
