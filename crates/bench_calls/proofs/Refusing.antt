@@ -23,7 +23,7 @@ use Rattle.strict.specs.Directory.{directory}
 use Rattle.strict.proofs.Verdicts.{no-other, refused-12-lowest}
 use Rattle.region.specs.Region.{foundAt}
 use Rattle.region.specs.declared.Found.the-variants.{Refused as LookupRefused}
-use Rattle.load.specs.declared.StagePlan.{StagePlan}
+use Rattle.stage.specs.declared.StagePlan.{StagePlan}
 use Rattle.cbfs.specs.Cbfs.{findOf, strictCheck}
 use Rattle.claims.proofs.Accepting.{refused-number}
 use Rattle.claims.proofs.Plans.{stage-refused}

@@ -13,10 +13,10 @@ use Rattle.strict.specs.Directory.{refusal, directory}
 use Rattle.strict.specs.declared.Directory.{Directory}
 use Rattle.editor.specs.Image.{Result, addIn, replaceIn, removeIn}
 use Rattle.editor.specs.declared.Edited.the-variants.{Refused as EditRefused}
-use Rattle.load.specs.Stage.{refusedStage, stageIn}
-use Rattle.load.specs.Payload.{refusedPayload, payloadIn}
-use Rattle.load.specs.declared.StagePlan.{StagePlan}
-use Rattle.load.specs.declared.PayloadPlan.{PayloadPlan}
+use Rattle.stage.specs.Stage.{refusedStage, stageIn}
+use Rattle.payload.specs.Payload.{refusedPayload, payloadIn}
+use Rattle.stage.specs.declared.StagePlan.{StagePlan}
+use Rattle.payload.specs.declared.PayloadPlan.{PayloadPlan}
 use Rattle.region.specs.Region.{stepIn, findIn, contentIn, nameAt as nameIn, contentAt as contentAtIn}
 use Rattle.region.specs.declared.Step.{Step}
 use Rattle.region.specs.declared.Step.the-variants.{Refused as StepRefused}

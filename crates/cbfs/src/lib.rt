@@ -1,10 +1,10 @@
 // The public face: every call over a whole lent image, by its master header. No call asks anything of its caller.
 use editor::Edited;
-use load::PayloadPlan;
-use load::StagePlan;
 use master::Master;
+use payload::PayloadPlan;
 use region::Found;
 use region::Step;
+use stage::StagePlan;
 use strict::Directory;
 ghost use mathlib.Core.Path.{_≡_};
 ghost use Rattle.master.specs.Master.{master as masterOf};
@@ -182,8 +182,8 @@ pub fn stage(image: &[u8], name: &[u8]) -> StagePlan
 {
     let m = master::read(image);
     match m {
-        Master::Read(g) => load::stage(image, g, name),
-        Master::Refused(r) => load::refused_stage(r),
+        Master::Read(g) => stage::plan(image, g, name),
+        Master::Refused(r) => stage::refused_stage(r),
     }
 }
 
@@ -194,7 +194,7 @@ pub fn payload(image: &[u8], name: &[u8]) -> PayloadPlan
 {
     let m = master::read(image);
     match m {
-        Master::Read(g) => load::payload(image, g, name),
-        Master::Refused(r) => load::refused_payload(r),
+        Master::Read(g) => payload::plan(image, g, name),
+        Master::Refused(r) => payload::refused_payload(r),
     }
 }

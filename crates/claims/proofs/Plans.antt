@@ -13,10 +13,12 @@ use Rattle.master.specs.Master.{refusal, regionOf, master}
 use Rattle.master.specs.declared.Master.{Master}
 use Rattle.master.specs.declared.Master.the-variants.{Read, Refused}
 use Rattle.region.specs.declared.Found.the-variants.{At}
-use Rattle.load.specs.Stage.{refusedStage, stageIn}
-use Rattle.load.specs.Payload.{refusedPayload, payloadIn}
-use Rattle.load.specs.Accepted.{AcceptedStage, AcceptedPayload}
-use Rattle.load.proofs.Theorems as Load
+use Rattle.stage.specs.Stage.{refusedStage, stageIn}
+use Rattle.payload.specs.Payload.{refusedPayload, payloadIn}
+use Rattle.stage.specs.Accepted.{AcceptedStage}
+use Rattle.payload.specs.Accepted.{AcceptedPayload}
+use Rattle.stage.proofs.Theorems as Stage
+use Rattle.payload.proofs.Theorems as Payload
 use Rattle.cbfs.specs.Cbfs.{guardedFind, guardedContent, planOn, stage, payload}
 use Rattle.claims.proofs.Accepting.{refused-number}
 
@@ -52,18 +54,18 @@ module _ (i name : List ℕ) where
 
   pub stage-accepted : stage i name .number ≡ 0 → (t : Taken) × (guardedFind i name ≡ At t) × AcceptedStage i (guardedContent i name) t (stage i name)
   stage-accepted h =
-      let (g, e) = read-plan Load.stage-number refusedStage (λ r. refl) i (λ g. stageIn i g name) h in
-      rw e (Load.stage-accepted i g name (rw e at h))
+      let (g, e) = read-plan Stage.number refusedStage (λ r. refl) i (λ g. stageIn i g name) h in
+      rw e (Stage.stage-accepted i g name (rw e at h))
 
   pub payload-accepted : payload i name .number ≡ 0 → (t : Taken) × (guardedFind i name ≡ At t) × AcceptedPayload i (guardedContent i name) t (payload i name)
   payload-accepted h =
-      let (g, e) = read-plan Load.payload-number refusedPayload Load.refused-payload-number i (λ g. payloadIn i g name) h in
-      rw e (Load.payload-accepted i g name (rw e at h))
+      let (g, e) = read-plan Payload.number refusedPayload Payload.refused-number i (λ g. payloadIn i g name) h in
+      rw e (Payload.payload-accepted i g name (rw e at h))
 
   -- A refusal has its number, tells place 0, and is zero otherwise.
 
   pub stage-refused : (stage i name .number ≡ 0 → ⊥) → stage i name ≡ refusedStage (refusedBy (stage i name .number))
-  stage-refused = refusal-zero Load.stage-number refusedStage (λ r. refl) i (λ g. stageIn i g name) (λ g. Load.stage-refused i g name)
+  stage-refused = refusal-zero Stage.number refusedStage (λ r. refl) i (λ g. stageIn i g name) (λ g. Stage.stage-refused i g name)
 
   pub payload-refused : (payload i name .number ≡ 0 → ⊥) → payload i name ≡ refusedPayload (refusedBy (payload i name .number))
-  payload-refused = refusal-zero Load.payload-number refusedPayload Load.refused-payload-number i (λ g. payloadIn i g name) (λ g. Load.payload-refused i g name)
+  payload-refused = refusal-zero Payload.number refusedPayload Payload.refused-number i (λ g. payloadIn i g name) (λ g. Payload.payload-refused i g name)

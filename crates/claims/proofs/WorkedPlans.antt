@@ -9,16 +9,18 @@ use Rattle.number.specs.Bytes.{partOf, eqBytes}
 use Rattle.number.specs.Tests.{all}
 use Rattle.component.specs.Names.{nameTests, nameFits, beforeZero, fieldTests, fieldFits}
 use Rattle.component.specs.Component.{magic, startsWithMagic, componentOf, headerTests, wellFormed, fields, judge}
-use Rattle.number.specs.Lists.{any, keep}
+use Rattle.number.specs.Lists.{any, keep, padded}
 use Rattle.walk.specs.Walk.{placesBelow, places, carries, buried, unless, guarded, orElse, first, step, onward, follow, steps, listingFrom}
 use Rattle.walk.specs.Lookup.{bears, only}
 use Rattle.terms.specs.Terms.{bytesOf}
 use Rattle.terms.specs.Refusals.{lengthFits}
 use Rattle.master.specs.Master.{headerAt, addressFits, bootblockFits, alignFits, offsetFits, tests, refusal, master}
 use Rattle.load.specs.Fits.{sourceFits, lenFits, targetFits, loadTests}
-use Rattle.load.specs.Stage.{stageTests, stageAnswer, stageOf, stageIn}
-use Rattle.load.specs.Payload.{codeType, entryType, segmentAt, bssTests, paramsTests, typeTests, recordTests, endsBefore, apart, clear, turnTests, segmentsFrom, payloadTests, unused, padded, planOf, refusedPayload, payloadAnswer, payloadOf, payloadIn}
-use Rattle.load.proofs.Worked.{named, header, code, entry}
+use Rattle.stage.specs.Stage.{stageTests, stageAnswer, stageOf, stageIn}
+use Rattle.payload.specs.Payload.{codeType, entryType, segmentAt, bssTests, paramsTests, typeTests, recordTests, endsBefore, apart, clear, turnTests, segmentsFrom, payloadTests, unused, planOf, refusedPayload, payloadAnswer, payloadOf, payloadIn}
+use Rattle.load.proofs.Bench.{named}
+use Rattle.stage.proofs.Worked.{header}
+use Rattle.payload.proofs.Worked.{code, entry}
 use Rattle.cbfs.specs.Cbfs.{stage, payload}
 
 -- A stage named s at 0 and a payload named p at 128; the region ends at 256, where the master header stands, and P after it. P's lowest byte is given.

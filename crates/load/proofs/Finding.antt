@@ -21,6 +21,7 @@ use Rattle.terms.proofs.Regions.{bytes-fit, bytes-inside}
 use Rattle.region.specs.Region.{takenAt, foundAt, findIn, contentIn, contentFound}
 use Rattle.region.specs.declared.Found.the-variants.{At, Refused}
 use Rattle.load.specs.Fits.{contentPlace}
+use Rattle.load.specs.Accepted.{Inside}
 
 -- A part of the first n bytes is a part of the whole.
 part-of-first : (l : List ℕ) (n k m : ℕ) → k + m ≤ n → n ≤ length l → take m (drop k (take n l)) ≡ take m (drop k l)
@@ -31,6 +32,12 @@ pub record Located (i s : List ℕ) (t : Taken) : Type 0 where
   pub content : partOf i (contentPlace t) (t .header .len) ≡ s
   pub length-is : length s ≡ t .header .len
   pub within : contentPlace t + t .header .len ≤ length i
+
+pub inside : (i s : List ℕ) (t : Taken) → Located i s t → Inside i s t
+inside i s t place = record {
+  part = subst (λ (n : ℕ). s ≡ partOf i (contentPlace t) n) (sym (place .length-is)) (sym (place .content));
+  within = omega (arith, place .within, place .length-is);
+}
 
 module _ (i : List ℕ) (g : Region) (name : List ℕ) where
   abbrev looked : Answer

@@ -1,10 +1,4 @@
 pub mod Fitting
-pub mod Clearing
-pub mod Recording
-pub mod Turning
 pub mod Finding
 pub mod Answering
-pub mod Planning
-pub mod Accepting
-pub mod Theorems
-pub mod Worked
+pub mod Bench

@@ -15,10 +15,6 @@ use Rattle.load.specs.declared.Segment.{Segment}
 abbrev pub contentPlace : Taken → ℕ
 contentPlace t = t .place + t .header .offset
 
--- Where segment offsets are counted from, in the image: the component's header.
-abbrev pub origin : Taken → ℕ
-origin t = t .place
-
 -- The plan of the component that a lookup found, or the lookup's refusal, as a plan of either kind.
 abbrev pub planFor : {A : Type 0} → Found → (Refusal → A) → (Taken → A) → A
 planFor (Refused r) refusal plan = refusal r

@@ -1,4 +1,2 @@
 pub mod Fits
-pub mod Stage
-pub mod Payload
 pub mod Accepted

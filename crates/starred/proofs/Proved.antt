@@ -7,7 +7,7 @@ use Rattle.number.specs.Bytes.{partOf, eqBytes, splice}
 use Rattle.number.specs.Tests.{all}
 use Rattle.component.specs.Names.{nameTests, nameFits, beforeZero, fieldTests, fieldFits}
 use Rattle.component.specs.Component.{magic, startsWithMagic, componentOf, headerTests, wellFormed, fields, judge}
-use Rattle.number.specs.Lists.{any, keep}
+use Rattle.number.specs.Lists.{any, keep, padded}
 use Rattle.walk.specs.Walk.{placesBelow, places, carries, buried, plain, unless, guarded, orElse, first, step, onward, follow, steps, listingFrom}
 use Rattle.terms.specs.Refusals.{lengthFits}
 use Rattle.terms.specs.Terms.{bytesOf}
@@ -19,8 +19,8 @@ use Rattle.strict.specs.Strict.{takes, stray, strays, toldApart, decide, verdic
 use Rattle.strict.specs.Slots.{start}
 use Rattle.edit.specs.Edit.{fieldSize, headerBytes, fieldBytes, spanBytes, buries, runs, lowest, slotOf, filled, adding, renewing, carriedOut, add, replace}
 use Rattle.load.specs.Fits.{sourceFits, lenFits, targetFits, loadTests}
-use Rattle.load.specs.Stage.{stageTests, stageAnswer, stageOf, stageIn}
-use Rattle.load.specs.Payload.{segmentAt, bssTests, paramsTests, typeTests, recordTests, endsBefore, apart, clear, turnTests, segmentsFrom, payloadTests, padded, planOf, refusedPayload, payloadAnswer, payloadOf, payloadIn}
+use Rattle.stage.specs.Stage.{stageTests, stageAnswer, stageOf, stageIn}
+use Rattle.payload.specs.Payload.{segmentAt, bssTests, paramsTests, typeTests, recordTests, endsBefore, apart, clear, turnTests, segmentsFrom, payloadTests, planOf, refusedPayload, payloadAnswer, payloadOf, payloadIn}
 use Rattle.starred.specs.Starred.{All, nothing-more, _and_, image, A-500, told, table, cal, log, head, tables, hidingAt, addresses, aligns, spans, offsets, overrun, twice, replacing, growing, hiding, boot, plans, starred}
 
 addresses-hold : All addresses

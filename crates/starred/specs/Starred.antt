@@ -11,10 +11,10 @@ use Rattle.terms.specs.declared.Region.{Region}
 use Rattle.master.specs.Master.{master}
 use Rattle.master.specs.declared.Master.the-variants.{Read, Refused}
 use Rattle.edit.specs.Edit.{spanBytes}
-use Rattle.load.specs.Stage.{refusedStage}
-use Rattle.load.specs.Payload.{codeType, bssType, entryType, unused, refusedPayload}
-use Rattle.load.specs.declared.StagePlan.{StagePlan}
-use Rattle.load.specs.declared.PayloadPlan.{PayloadPlan}
+use Rattle.stage.specs.Stage.{refusedStage}
+use Rattle.payload.specs.Payload.{codeType, bssType, entryType, unused, refusedPayload}
+use Rattle.stage.specs.declared.StagePlan.{StagePlan}
+use Rattle.payload.specs.declared.PayloadPlan.{PayloadPlan}
 use Rattle.region.specs.Region.{Walked}
 use Rattle.region.specs.declared.Step.the-variants.{Took}
 use Rattle.region.specs.declared.Found.the-variants.{At}

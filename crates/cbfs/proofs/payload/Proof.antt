@@ -9,8 +9,8 @@ read-requires c κs = search needs
 enum-known-m : tie.Need-enum-known-m
 enum-known-m c = search needs
 
-payload-requires : tie.Need-payload-requires
-payload-requires c κs = search needs
+plan-requires : tie.Need-plan-requires
+plan-requires c κs = search needs
 
 enum-known-m-2 : tie.Need-enum-known-m-2
 enum-known-m-2 c = search needs
@@ -22,7 +22,7 @@ returns : tie.Need-returns
 returns c =
     let m = c .before .before in
     let e = sym (m .before .before .read .ensures .0) ∙ m .m .given .1 in
-    (c .payload .ensures .0 ∙ rw e, (refl, refl))
+    (c .plan .ensures .0 ∙ rw e, (refl, refl))
 
 returns-2 : tie.Need-returns-2
 returns-2 c =
@@ -36,7 +36,7 @@ payload-spec =
     (tie.spec
     read-requires
     enum-known-m
-    payload-requires
+    plan-requires
     enum-known-m-2
     refused-payload-requires
     returns

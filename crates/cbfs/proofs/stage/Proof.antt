@@ -9,8 +9,8 @@ read-requires c κs = search needs
 enum-known-m : tie.Need-enum-known-m
 enum-known-m c = search needs
 
-stage-requires : tie.Need-stage-requires
-stage-requires c κs = search needs
+plan-requires : tie.Need-plan-requires
+plan-requires c κs = search needs
 
 enum-known-m-2 : tie.Need-enum-known-m-2
 enum-known-m-2 c = search needs
@@ -22,7 +22,7 @@ returns : tie.Need-returns
 returns c =
     let m = c .before .before in
     let e = sym (m .before .before .read .ensures .0) ∙ m .m .given .1 in
-    (c .stage .ensures .0 ∙ rw e, (refl, refl))
+    (c .plan .ensures .0 ∙ rw e, (refl, refl))
 
 returns-2 : tie.Need-returns-2
 returns-2 c =
@@ -36,7 +36,7 @@ stage-spec =
     (tie.spec
     read-requires
     enum-known-m
-    stage-requires
+    plan-requires
     enum-known-m-2
     refused-stage-requires
     returns

@@ -1,0 +1,67 @@
+-- What is answered for a component as a stage, and for what the lookup found.
+use Prim.Native.Nat.{ℕ, _≤_, _<_}
+use mathlib.Core.Path.{_≡_, sym, _∙_}
+use mathlib.Core.Bool.{true}
+use mathlib.Core.List.{List}
+use lib.ListN.{length}
+use borrow.Author.Tests.{le-leb, lt-leb, eq-eqb, ne-eqb}
+use Rattle.terms.specs.Refusals.{firstFailed}
+use Rattle.terms.specs.Terms.{refusedBy}
+use Rattle.terms.specs.declared.Refusal.{Refusal}
+use Rattle.terms.specs.declared.Region.{Region}
+use Rattle.walk.specs.declared.Taken.{Taken}
+use Rattle.number.specs.Bytes.{partOf}
+use Rattle.region.specs.Region.{findIn, contentIn}
+use Rattle.region.specs.declared.Found.{Found}
+use Rattle.region.specs.declared.Found.the-variants.{At, Refused}
+use Rattle.load.specs.Fits.{contentPlace, loadTests}
+use Rattle.load.specs.declared.Segment.{Segment}
+use Rattle.load.proofs.Finding.{Located, located}
+use Rattle.stage.specs.Stage.{entry, binaryAt, stageTests, planOf, refusedStage, stageAnswer, stageOf, stageIn}
+use Rattle.stage.specs.declared.StagePlan.{StagePlan}
+
+-- A stage, by its type k.
+
+module _ (k : ℕ) (s : List ℕ) (at : ℕ) where
+  pub no-stage : {r : Refusal} {p : StagePlan} → (k ≡ 0x10 → ⊥) → r ≡ refusedBy 18 → p ≡ refusedStage r → p ≡ stageAnswer (firstFailed (stageTests k s at)) s at
+  unfolding stageTests stageAnswer
+  no-stage h e f = f ∙ rw (ne-eqb k 0x10 h, e)
+
+  pub no-header : {r : Refusal} {p : StagePlan} → k ≡ 0x10 → length s < 28 → r ≡ refusedBy 19 → p ≡ refusedStage r → p ≡ stageAnswer (firstFailed (stageTests k s at)) s at
+  unfolding stageTests stageAnswer
+  no-header h l e f = f ∙ rw (eq-eqb k 0x10 h, lt-leb 28 (length s) l, e)
+
+  -- Its binary x, and the number n of the first test that fails.
+  module _ (h : k ≡ 0x10) (l : 28 ≤ length s) {x : Segment} (b : x ≡ binaryAt s at) {n : ℕ} (c : n ≡ firstFailed (loadTests at (length s) x)) where
+    first : firstFailed (stageTests k s at) ≡ n
+    unfolding stageTests
+    first = rw (eq-eqb k 0x10 h, le-leb 28 (length s) l, ← b) (sym c)
+
+    pub no-load : {r : Refusal} {p : StagePlan} → (n ≡ 0 → ⊥) → r ≡ refusedBy n → p ≡ refusedStage r → p ≡ stageAnswer (firstFailed (stageTests k s at)) s at
+    unfolding stageAnswer
+    no-load z e f = f ∙ rw (first, ne-eqb n 0 z, e)
+
+    pub staged : {e : ℕ} {p : StagePlan} → n ≡ 0 → e ≡ entry s → p ≡ planOf e x → p ≡ stageAnswer (firstFailed (stageTests k s at)) s at
+    unfolding stageAnswer
+    staged z e f = f ∙ rw (first, eq-eqb n 0 z, e, b)
+
+pub stage-by : (t : Taken) {s : List ℕ} {at : ℕ} {p : StagePlan} (u : List ℕ) → s ≡ u → at ≡ contentPlace t
+    → p ≡ stageAnswer (firstFailed (stageTests (t .header .kind) s at)) s at → p ≡ stageOf t u
+unfolding stageOf
+stage-by t u e f g = g ∙ rw (e, f)
+
+-- What the lookup found.
+
+module _ (i : List ℕ) (g : Region) (name : List ℕ) {f : Found} (e : f ≡ findIn true i g name) where
+  module _ {t : Taken} (h : f ≡ At t) where
+    pub place : Located i (contentIn true i g name) t
+    place = located i g name t (sym e ∙ h)
+
+    pub stage-found : {p : StagePlan} → p ≡ stageOf t (partOf i (contentPlace t) (t .header .len)) → p ≡ stageIn i g name
+    unfolding stageIn
+    stage-found q = q ∙ rw (place .content, ← e, h)
+
+  module _ {r : Refusal} (h : f ≡ Refused r) where
+    pub stage-refused : {p : StagePlan} → p ≡ refusedStage r → p ≡ stageIn i g name
+    unfolding stageIn
+    stage-refused q = q ∙ rw (← e, h)

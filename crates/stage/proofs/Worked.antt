@@ -1,0 +1,65 @@
+-- Worked values: plans of small stages, read by the definitions (document 01, "Load plans"), and its bench cases.
+use Prim.Native.Nat.{ℕ, _-_, _^_}
+use mathlib.Core.Path.{_≡_, refl}
+use mathlib.Core.Bool.{Bool, true}
+use mathlib.Core.List.{List, [], _∷_, _++_, map}
+use lib.ListN.{replicate}
+use lib.Dec.{eqb}
+use Rattle.number.specs.Number.{be, le, beBytes, leBytes}
+use Rattle.number.specs.Bytes.{partOf, eqBytes}
+use Rattle.number.specs.Tests.{every, all}
+use Rattle.number.specs.Lists.{any, keep}
+use Rattle.component.specs.Names.{nameTests, nameFits, beforeZero, fieldTests, fieldFits}
+use Rattle.component.specs.Component.{magic, startsWithMagic, componentOf, headerTests, wellFormed, fields, judge}
+use Rattle.walk.specs.Walk.{placesBelow, places, carries, buried, unless, guarded, orElse, first, step, onward, follow, steps, listingFrom}
+use Rattle.walk.specs.Lookup.{bears, only}
+use Rattle.terms.specs.Terms.{bytesOf}
+use Rattle.load.specs.Fits.{sourceFits, lenFits, targetFits, loadTests}
+use Rattle.load.proofs.Bench.{component, image, twice, region}
+use Rattle.stage.specs.Stage.{stageTests, stageAnswer, stageOf, stageIn}
+use Rattle.stage.specs.declared.StagePlan.{StagePlan}
+
+-- The bytes that a stage begins with: compression, entry, load, len, memlen.
+abbrev pub header : ℕ → ℕ → ℕ → ℕ → ℕ → List ℕ
+header c e a n m = leBytes 4 c ++ (leBytes 8 e ++ (leBytes 8 a ++ (leBytes 4 n ++ leBytes 4 m)))
+
+-- Stages, each with the number that it is refused by, or 0. The binary has 8 bytes.
+abbrev stages : List (ℕ × List ℕ)
+stages =
+    -- document 01's bench cases
+    (0, header 0 (2 ^ 64 - 16) (2 ^ 64 - 16) 8 16 ++ replicate 8 0)
+    ∷ (25, header 0 (2 ^ 64 - 16) (2 ^ 64 - 16) 8 17 ++ replicate 8 0)
+    -- no whole header; compression; the binary's end; its memory
+    ∷ (19, replicate 27 0)
+    ∷ (0, header 2 0x1000 0x1000 0 0)
+    ∷ (22, header 3 0x1000 0x1000 9 0 ++ replicate 8 0)
+    ∷ (23, header 0 0x1000 0x1000 9 0 ++ replicate 8 0)
+    ∷ (24, header 0 0x1000 0x1000 8 7 ++ replicate 8 0)
+    ∷ (0, header 1 0x1000 0x1000 8 7 ++ replicate 8 0)
+    ∷ []
+
+abbrev agrees : ℕ × List ℕ → Bool
+agrees (n, s) = eqb ((stageOf (component 0x10) s) .number) n
+
+worked-stages : every (map agrees stages) ≡ true
+unfolding le leBytes sourceFits lenFits targetFits loadTests stageTests stageAnswer stageOf
+worked-stages = refl
+
+-- The type comes first.
+other-stage : (stageOf (component 0x20) []) .number ≡ 18
+unfolding stageTests stageAnswer stageOf
+other-stage = refl
+
+read-stage : stageIn (image 0x10 (header 1 0x77 0x1000 4 0x100 ++ replicate 4 0)) (region 200) (0x70 ∷ [])
+    ≡ record { number = 0; place = 0; compression = 1; entry = 0x77; load = 0x1000; source = 132; len = 4; memlen = 0x100 }
+unfolding be le beBytes leBytes partOf eqBytes all nameTests nameFits beforeZero fieldTests fieldFits magic startsWithMagic componentOf headerTests wellFormed fields judge any keep placesBelow places carries buried unless guarded orElse first step onward follow steps listingFrom bears only bytesOf sourceFits lenFits targetFits loadTests stageTests stageAnswer stageOf stageIn
+read-stage = refl
+
+-- A name that nobody bears, and one that is borne twice: the lookup's refusal is the plan's, before the type is looked at.
+
+abbrev no-stage : ℕ → StagePlan
+no-stage n = record { number = n; place = 0; compression = 0; entry = 0; load = 0; source = 0; len = 0; memlen = 0 }
+
+refused-lookups : (stageIn (twice 0x20) (region 168) (0x71 ∷ []) ≡ no-stage 10) × (stageIn (twice 0x20) (region 168) (0x70 ∷ []) ≡ no-stage 11)
+unfolding be le beBytes leBytes partOf eqBytes all nameTests nameFits beforeZero fieldTests fieldFits magic startsWithMagic componentOf headerTests wellFormed fields judge any keep placesBelow places carries buried unless guarded orElse first step onward follow steps listingFrom bears only bytesOf stageIn
+refused-lookups = (refl, refl)

@@ -1,0 +1,23 @@
+-- What is known of every stage plan that is not refused, sentence by sentence of document 01, "Load plans".
+-- i is the image, t the component that the guarded lookup gives, and s its content.
+use Prim.Native.Nat.{ℕ, _+_, _^_, _≤_}
+use mathlib.Core.Path.{_≡_}
+use mathlib.Core.List.{List}
+use Rattle.walk.specs.declared.Taken.{Taken}
+use Rattle.load.specs.Fits.{contentPlace}
+use Rattle.load.specs.Accepted.{Inside, Source}
+use Rattle.stage.specs.Stage.{entry, binaryAt, planOf}
+use Rattle.stage.specs.declared.StagePlan.{StagePlan}
+
+-- A stage plan p.
+pub record AcceptedStage (i s : List ℕ) (t : Taken) (p : StagePlan) : Type 0 where
+  pub kind : t .header .kind ≡ 0x10
+  pub content : Inside i s t
+  -- It tells the header's compression, entry, load, len and memlen. "The binary follows."
+  pub told : p ≡ planOf (entry s) (binaryAt s (contentPlace t))
+  -- "len must fit what remains."
+  pub source : Source i s t (p .source) (p .len)
+  -- "The zeroed range is memlen bytes from load": it does not pass 2^64.
+  pub range : p .load + p .memlen ≤ 2 ^ 64
+  -- Uncompressed bytes are no more than the memory for them.
+  pub memory : p .compression ≡ 0 → p .len ≤ p .memlen
