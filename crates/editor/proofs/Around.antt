@@ -13,7 +13,8 @@ use Rattle.terms.specs.declared.Refusal.{Refusal}
 use Rattle.terms.proofs.Regions.{bytes-inside, bytes-fit}
 use Rattle.strict.specs.Strict.{limit}
 use Rattle.edit.specs.Edit.{Run, filled, Decision, refuse, write, toAdd, toReplace, toRemove, Reply, refusal, done, Outcome, carriedOut, add, replace, remove}
-use Rattle.editor.specs.Code.{run, kindOf}
+use Rattle.room.specs.Room.{run}
+use Rattle.editor.specs.Code.{kindOf}
 use Rattle.editor.specs.Image.{answerOf, inImage, addIn, replaceIn, removeIn}
 use Rattle.edit.proofs.Written.{length-span, filled-length, filled-before, filled-after, filled-part}
 use Rattle.editor.proofs.Choosing.{add-ready, replace-ready, remove-ready}

@@ -24,9 +24,10 @@ use Rattle.strict.specs.declared.Directory.{Directory}
 use Rattle.strict.proofs.Accepting.{walks-agree}
 use Rattle.strict.proofs.Verdicts.{no-other, accepted-count}
 use Rattle.edit.specs.Edit.{Run, holds, runs, freeRuns, lowest, Slot, slotOf, spanBytes, offsetFor, buries, Decision, refuse, write, afterCheck, adding, renewing, clearing, toAdd, toReplace, toRemove}
-use Rattle.editor.specs.Code.{run, spaceOf, roomFor, roomOf, kindHeld, choice}
-use Rattle.editor.specs.declared.Space.{Space}
-use Rattle.editor.specs.declared.Room.the-variants.{Within, Nowhere}
+use Rattle.room.specs.Room.{run, spaceOf, roomFor, roomOf}
+use Rattle.editor.specs.Code.{kindHeld, choice}
+use Rattle.room.specs.declared.Space.{Space}
+use Rattle.room.specs.declared.Room.the-variants.{Within, Nowhere}
 use Rattle.editor.specs.declared.Choice.{Choice}
 use Rattle.editor.specs.declared.Choice.the-variants.{Write, Refuse}
 use Rattle.edit.proofs.Written.{name-fit, length-span}

@@ -11,9 +11,10 @@ use Rattle.terms.specs.declared.Region.{Region}
 use Rattle.terms.proofs.Regions.{bytes-inside}
 use Rattle.strict.specs.Strict.{limit}
 use Rattle.edit.specs.Edit.{Run, offsetFor, spanBytes, Decision, write, toAdd, toReplace, toRemove, carriedOut, add, replace, remove}
-use Rattle.editor.specs.Code.{spaceOf, kindOf, choice}
+use Rattle.room.specs.Room.{spaceOf}
+use Rattle.editor.specs.Code.{kindOf, choice}
 use Rattle.editor.specs.Image.{Result, inImage, addIn, replaceIn, removeIn}
-use Rattle.editor.specs.declared.Space.{Space}
+use Rattle.room.specs.declared.Space.{Space}
 use Rattle.editor.specs.declared.Choice.the-variants.{Write}
 use Rattle.editor.specs.declared.Edited.the-variants.{Done}
 use Rattle.edit.proofs.Written.{length-span}

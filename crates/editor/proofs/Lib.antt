@@ -1,5 +1,4 @@
 pub mod Burying
-pub mod Finding
 pub mod Writing
 pub mod Choosing
 pub mod Faces

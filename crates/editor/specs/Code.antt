@@ -6,33 +6,14 @@ use mathlib.Core.Option.{Option, some, none}
 use lib.ListN.{length}
 use lib.Dec.{eqb}
 use Rattle.walk.specs.Walk.{placesBelow, plainListing}
-use Rattle.edit.specs.Edit.{Run, Slot, slotOf, Decision, refuse, write}
-use Rattle.editor.specs.declared.Space.{Space}
-use Rattle.editor.specs.declared.Room.{Room}
-use Rattle.editor.specs.declared.Room.the-variants.{Within, Nowhere}
+use Rattle.edit.specs.Edit.{Slot, slotOf, Decision, refuse, write}
+use Rattle.room.specs.Room.{spaceOf}
 use Rattle.editor.specs.declared.Choice.{Choice}
 use Rattle.editor.specs.declared.Choice.the-variants.{Write, Refuse}
-
-abbrev pub run : ℕ → ℕ → Run
-run n m = record { from = n; to = m }
 
 -- How far the first place at or after n lies from n.
 unfoldable pub lead : ℕ → ℕ → ℕ
 lead a n = placesBelow a n * a - n
-
--- A run, and the type of the component that stands there or is to.
-abbrev pub spaceOf : Run → ℕ → Space
-spaceOf x k = record { start = x .from; end = x .to; kind = k }
-
--- The free run that was found, for a component of that type.
-abbrev pub roomFor : ℕ → Option Run → Room
-roomFor k none = Nowhere
-roomFor k (some x) = Within (spaceOf x k)
-
--- The slot that was found.
-abbrev pub roomOf : Option Slot → Room
-roomOf none = Nowhere
-roomOf (some z) = Within (spaceOf (z .run) (z .entry .component .kind))
 
 -- The type that an edit of the slot keeps.
 abbrev pub kindHeld : Option Slot → ℕ

@@ -1,42 +1,26 @@
 // Edits of a lent image: add, replace and remove (document 01, "Edits"; refusals 10 to 17).
 // An edit is a decision, which reads the image and answers the slot or the refusal, and a write, which is lent the slot alone.
+use room::Room;
+use room::Space;
 use terms::Refusal;
 use terms::Region;
-use walk::Found;
-use walk::Step;
 ghost use mathlib.Core.Path.{_≡_};
-ghost use mathlib.Core.List.{[], _∷_, _++_};
+ghost use mathlib.Core.List.{_++_};
 ghost use Prim.Native.Nat.{ℕ, _+_, _-_, _≤_};
 ghost use lib.ListN.{length, replicate};
 ghost use lib.Dec.{ltb};
 ghost use Rattle.number.specs.Bytes.{splice};
-ghost use Rattle.number.specs.Lists.{any};
-ghost use Rattle.walk.specs.Walk.{nextMagic, plain, listingFrom, plainListing};
-ghost use Rattle.walk.specs.Lookup.{bears};
+ghost use Rattle.walk.specs.Walk.{nextMagic, plainListing};
 ghost use Rattle.terms.specs.Terms.{bytesOf, refusedBy};
 ghost use Rattle.strict.specs.Strict.{limit};
-ghost use Rattle.strict.specs.Slots.{start as startOf};
-ghost use Rattle.edit.specs.Edit.{fieldSize, offsetFor, headerBytes, spanBytes, buries as buriesOf, holds as holdsOf, freeRuns, lowest, slotOf, adding, renewing, clearing, toAdd, toReplace, toRemove};
-ghost use Rattle.editor.specs.Code.{run, lead as leadOf, roomFor, roomOf, kindHeld, kindOf, choice};
+ghost use Rattle.edit.specs.Edit.{fieldSize, offsetFor, headerBytes, spanBytes, buries as buriesOf, slotOf, adding, renewing, clearing, toAdd, toReplace, toRemove};
+ghost use Rattle.editor.specs.Code.{lead as leadOf, kindHeld, kindOf, choice};
 ghost use Rattle.editor.specs.Image.{addIn, replaceIn, removeIn};
 
 // The place of the component, or the refusal.
 pub enum Edited {
     Done(usize),
     Refused(Refusal),
-}
-
-// The bytes from start up to end, and the type of the component that stands there or is to.
-struct Space {
-    start: usize,
-    end: usize,
-    kind: u32,
-}
-
-// Where a component stands or is to; or that there is no such space.
-enum Room {
-    Within(Space),
-    Nowhere,
 }
 
 // What an edit decides: the slot to write, or the refusal.
@@ -98,88 +82,6 @@ fn buries(align: usize, name: &[u8], kind: u32, content: &[u8]) -> bool
     kind == 0x48495645
 }
 
-// The bytes from `from` up to `to` hold a span of n bytes.
-fn holds(n: usize, from: usize, to: usize) -> bool
-    ensures { λ b. ⌜ b ≡ holdsOf n (run from to) ⌝ }
-{
-    if 0xFFFFFFFF < n {
-        return false;
-    }
-    if to < from {
-        return false;
-    }
-    n <= to - from
-}
-
-// That run, for a component of this type, if it holds n bytes.
-fn last_room(n: usize, from: usize, to: usize, kind: u32) -> Room
-    ensures { λ o. ⌜ o ≡ roomFor kind (lowest n (run from to ∷ [])) ⌝ }
-{
-    if holds(n, from, to) {
-        return Room::Within(Space {
-            start: from,
-            end: to,
-            kind,
-        });
-    }
-    Room::Nowhere
-}
-
-// The lowest free run that holds n bytes, for a component of this type.
-fn free_run(r: &[u8], align: usize, n: usize, kind: u32) -> Room
-    ensures { λ o. ⌜ o ≡ roomFor kind (lowest n (freeRuns (now (r .entry)) align)) ⌝ }
-{
-    let mut from = 0;
-    while from < r.len() {
-        let s = walk::plain_step(r, align, from);
-        match s {
-            Step::NoneLeft => {
-                return last_room(n, from, r.len(), kind);
-            }
-            Step::Took(t) => {
-                if holds(n, from, t.place) {
-                    return Room::Within(Space {
-                        start: from,
-                        end: t.place,
-                        kind,
-                    });
-                }
-                from = t.next;
-            }
-        }
-    }
-    last_room(n, from, r.len(), kind)
-}
-
-// The start of the first component that a plain walk begun at `from` takes, or else the region's end.
-fn next_start(r: &[u8], align: usize, from: usize) -> usize
-    ensures { λ e. ⌜ e ≡ startOf (length (now (r .entry))) (listingFrom (plain (now (r .entry))) (now (r .entry)) align from) ⌝ }
-{
-    let s = walk::plain_step(r, align, from);
-    match s {
-        Step::Took(t) => t.place,
-        Step::NoneLeft => r.len(),
-    }
-}
-
-// The slot of the name's bearer.
-fn slot_of(r: &[u8], align: usize, name: &[u8]) -> Room
-    ensures { λ o. ⌜ o ≡ roomOf (slotOf (length (now (r .entry))) (now (name .entry)) (plainListing (now (r .entry)) align)) ⌝ }
-{
-    let f = walk::plain_find(r, align, name);
-    match f {
-        Found::At(t) => {
-            let h = t.header;
-            Room::Within(Space {
-                start: t.place,
-                end: next_start(r, align, t.next),
-                kind: h.kind,
-            })
-        }
-        Found::Refused(_) => Room::Nowhere,
-    }
-}
-
 // Writes a header over the first 24 bytes of the slot. Its checksum is 0.
 fn put_header(slot: &mut [u8], len: u32, kind: u32, offset: u32)
     requires { ⌜ 24 ≤ length (now slot) ⌝ }
@@ -223,17 +125,6 @@ fn refuse(number: u32) -> Choice
     Choice::Refuse(terms::refused(number))
 }
 
-// A component of the region bears the name.
-fn used(r: &[u8], align: usize, name: &[u8]) -> bool
-    ensures { λ b. ⌜ b ≡ any (bears (now (name .entry))) (plainListing (now (r .entry)) align) ⌝ }
-{
-    let f = walk::plain_find(r, align, name);
-    match f {
-        Found::At(_) => true,
-        Found::Refused(_) => false,
-    }
-}
-
 // Add, on an accepted region of so many components: 14, 15, 13, 16, 17.
 fn choose_add(
     r: &[u8],
@@ -249,7 +140,7 @@ fn choose_add(
     if !component::name_fits(name) {
         return refuse(14);
     }
-    if used(r, align, name) {
+    if room::used(r, align, name) {
         return refuse(15);
     }
     if 256 <= count {
@@ -262,7 +153,7 @@ fn choose_add(
     if 0xFFFFFFFF - offset < content.len() {
         return refuse(17);
     }
-    let x = free_run(r, align, offset + content.len(), kind);
+    let x = room::free_run(r, align, offset + content.len(), kind);
     match x {
         Room::Within(z) => Choice::Write(z),
         Room::Nowhere => refuse(17),
@@ -273,7 +164,7 @@ fn choose_add(
 fn choose_replace(r: &[u8], align: usize, name: &[u8], content: &[u8]) -> Choice
     ensures { λ c. ⌜ ((s : ℕ) → c ≡ choice s (kindHeld (slotOf (length (now (r .entry))) (now (name .entry)) (plainListing (now (r .entry)) align))) (renewing align (now (name .entry)) (now (content .entry)) (slotOf (length (now (r .entry))) (now (name .entry)) (plainListing (now (r .entry)) align)))) ⌝ }
 {
-    let x = slot_of(r, align, name);
+    let x = room::slot_of(r, align, name);
     match x {
         Room::Nowhere => refuse(10),
         Room::Within(z) => {
@@ -284,7 +175,7 @@ fn choose_replace(r: &[u8], align: usize, name: &[u8], content: &[u8]) -> Choice
             if 0xFFFFFFFF - offset < content.len() {
                 return refuse(17);
             }
-            if !holds(offset + content.len(), z.start, z.end) {
+            if !room::holds(offset + content.len(), z.start, z.end) {
                 return refuse(17);
             }
             Choice::Write(z)
@@ -296,7 +187,7 @@ fn choose_replace(r: &[u8], align: usize, name: &[u8], content: &[u8]) -> Choice
 fn choose_remove(r: &[u8], align: usize, name: &[u8]) -> Choice
     ensures { λ c. ⌜ ((s : ℕ) → c ≡ choice s (kindHeld (slotOf (length (now (r .entry))) (now (name .entry)) (plainListing (now (r .entry)) align))) (clearing (slotOf (length (now (r .entry))) (now (name .entry)) (plainListing (now (r .entry)) align)))) ⌝ }
 {
-    let x = slot_of(r, align, name);
+    let x = room::slot_of(r, align, name);
     match x {
         Room::Within(z) => Choice::Write(z),
         Room::Nowhere => refuse(10),

@@ -12,7 +12,8 @@ use Rattle.number.specs.Lists.{any}
 use Rattle.walk.specs.Walk.{plainListing}
 use Rattle.walk.specs.Lookup.{bears}
 use Rattle.edit.specs.Edit.{spanBytes, buries, freeRuns, lowest, adding}
-use Rattle.editor.specs.Code.{roomFor, choice}
+use Rattle.room.specs.Room.{roomFor}
+use Rattle.editor.specs.Code.{choice}
 use Rattle.editor.specs.declared.Choice.the-variants.{Write, Refuse}
 use Rattle.edit.proofs.Written.{name-fit, field-most, length-span}
 use Rattle.editor.proofs.Choosing.{long-nowhere, room-some, room-none, chose-14, chose-15, chose-13, chose-16, chose-17, chose-write}
@@ -34,7 +35,7 @@ named : (c : tie.Else1) → nameFits (start (c .before) .args .name .now) ≡ tr
 named c = sym (c .before .name-fits .ensures .0) ∙ not-false _ (c .if1 .left)
 
 unused : (c : tie.Else2) → let a = start (c .before .before .before) .args in any (bears (a .name .now)) (plainListing (a .r .now) (a .align)) ≡ false
-unused c = sym (c .before .used .ensures) ∙ c .if2 .left
+unused c = sym (c .before .used .ensures .0) ∙ c .if2 .left
 
 few : (c : tie.Else3) → let a = start (c .before .before .before .before) .args in length (plainListing (a .r .now) (a .align)) < 256
 few c = omega (arith, c .if3 .left, start (c .before .before .before .before) .pre)
@@ -64,7 +65,7 @@ nowhere c e s =
 found : (c : tie.After-free-run) → let a = start (one (c .before .before) .before) .args in
     c .free-run .result ≡ roomFor (a .kind) (lowest (length (spanBytes (a .name .now) (a .kind) (a .content .now))) (freeRuns (a .r .now) (a .align)))
 found c = let a = start (one (c .before .before) .before) .args in
-    c .free-run .ensures ∙ ap (λ (n : ℕ). roomFor (a .kind) (lowest n (freeRuns (a .r .now) (a .align)))) (spans (c .before .before))
+    c .free-run .ensures .0 ∙ ap (λ (n : ℕ). roomFor (a .kind) (lowest n (freeRuns (a .r .now) (a .align)))) (spans (c .before .before))
 
 returns : tie.Need-returns
 returns c =
@@ -82,7 +83,7 @@ returns-2 : tie.Need-returns-2
 returns-2 c =
     λ s. let u = c .before .before in
     let a = start (u .before .before) .args in
-    c .refuse2 .ensures ∙ chose-15 (a .r .now) (a .align) (a .name .now) (a .kind) (a .content .now) s (named (u .before)) (sym (u .used .ensures) ∙ c .before .if2 .taken)
+    c .refuse2 .ensures ∙ chose-15 (a .r .now) (a .align) (a .name .now) (a .kind) (a .content .now) s (named (u .before)) (sym (u .used .ensures .0) ∙ c .before .if2 .taken)
 
 refuse-requires-3 : tie.Need-refuse-requires-3
 refuse-requires-3 c κs = search needs

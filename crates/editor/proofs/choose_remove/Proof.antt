@@ -19,13 +19,13 @@ refuse-requires c κs = search needs
 returns : tie.Need-returns
 returns c =
     λ s. let w = c .before .before .before in
-    cleared s _ _ (sym (w .slot-of .ensures) ∙ c .before .x .given .1)
+    cleared s _ _ (sym (w .slot-of .ensures .0) ∙ c .before .x .given .1)
 
 returns-2 : tie.Need-returns-2
 returns-2 c =
     λ s. let t = c .before in
     let w = t .before .before in
-    c .refuse .ensures ∙ cleared-10 s _ (sym (w .slot-of .ensures) ∙ t .enum-told .given .1)
+    c .refuse .ensures ∙ cleared-10 s _ (sym (w .slot-of .ensures .0) ∙ t .enum-told .given .1)
 
 pub choose-remove-spec : {M : Type 1} → statement M
 choose-remove-spec =

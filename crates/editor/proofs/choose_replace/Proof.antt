@@ -6,8 +6,8 @@ use lib.ListN.{length}
 use borrow.Author.Tests.{not-true, not-false}
 use Rattle.walk.specs.Walk.{plainListing}
 use Rattle.edit.specs.Edit.{spanBytes, buries, holds, slotOf}
-use Rattle.editor.specs.Code.{run, roomOf}
-use Rattle.editor.specs.declared.Room.the-variants.{Within}
+use Rattle.room.specs.Room.{run, roomOf}
+use Rattle.room.specs.declared.Room.the-variants.{Within}
 use Rattle.edit.proofs.Written.{field-most, length-span}
 use Rattle.editor.proofs.Choosing.{renewed-10, renewed-16, renewed-17, renewed, room-short, long-unheld}
 use borrow.Author.Needs.{needs}
@@ -36,7 +36,7 @@ told c = c .before .before .before
 -- the slot that was found
 within : (c : tie.After-known-told) → let a = start (c .before .before .before) .args in
     roomOf (slotOf (length (a .r .now)) (a .name .now) (plainListing (a .r .now) (a .align))) ≡ Within (c .before .x .given .0 .0)
-within c = sym (c .before .before .before .slot-of .ensures) ∙ c .before .x .given .1
+within c = sym (c .before .before .before .slot-of .ensures .0) ∙ c .before .x .given .1
 
 short : (c : tie.After-known-told) → length (start (c .before .before .before) .args .name .now) ≤ 255
 short c = let a = start (c .before .before .before) .args in room-short (a .r .now) (a .align) (a .name .now) _ (within c)
@@ -112,7 +112,7 @@ returns-4 c =
     λ s. let t = c .before in
     let w = t .before .before in
     let a = start w .args in
-    c .refuse .ensures ∙ renewed-10 s _ (a .align) (a .name .now) (a .content .now) (sym (w .slot-of .ensures) ∙ t .enum-told .given .1)
+    c .refuse .ensures ∙ renewed-10 s _ (a .align) (a .name .now) (a .content .now) (sym (w .slot-of .ensures .0) ∙ t .enum-told .given .1)
 
 returns-5 : tie.Need-returns-5
 returns-5 c =

@@ -1,8 +1,8 @@
-use mathlib.Core.Path.{sym, _∙_}
-use Rattle.editor.proofs.Finding.{used-yes, used-no}
+use mathlib.Core.Path.{refl, sym, _∙_}
+use Rattle.room.proofs.Finding.{used-yes, used-no}
 use borrow.Author.Needs.{needs}
-use Rattle.editor.proofs.used.Statement.{statement}
-use Rattle.editor.proofs.used.Tie as tie
+use Rattle.room.proofs.used.Statement.{statement}
+use Rattle.room.proofs.used.Tie as tie
 
 plain-find-requires : tie.Need-plain-find-requires
 plain-find-requires c κs = search needs
@@ -20,13 +20,13 @@ returns : tie.Need-returns
 returns c =
     let w = c .before .before in
     let a = args w .args in
-    sym (used-yes (a .r .now) (a .align) (a .name .now) _ (sym (w .plain-find .ensures .0) ∙ c .enum-told .given .1))
+    (sym (used-yes (a .r .now) (a .align) (a .name .now) _ (sym (w .plain-find .ensures .0) ∙ c .enum-told .given .1)), (refl, refl))
 
 returns-2 : tie.Need-returns-2
 returns-2 c =
     let w = c .before .before in
     let a = args w .args in
-    sym (used-no (a .r .now) (a .align) (a .name .now) _ (sym (w .plain-find .ensures .0) ∙ c .enum-told2 .given .1))
+    (sym (used-no (a .r .now) (a .align) (a .name .now) _ (sym (w .plain-find .ensures .0) ∙ c .enum-told2 .given .1)), (refl, refl))
 
 pub used-spec : {M : Type 1} → statement M
 used-spec = tie.close (tie.spec plain-find-requires enum-told enum-told-2 returns returns-2)

@@ -1,8 +1,8 @@
-use mathlib.Core.Path.{sym, _∙_}
-use Rattle.editor.proofs.Finding.{room-given, room-missing}
+use mathlib.Core.Path.{refl, sym, _∙_}
+use Rattle.room.proofs.Finding.{room-given, room-missing}
 use borrow.Author.Needs.{needs}
-use Rattle.editor.proofs.slot_of.Statement.{statement}
-use Rattle.editor.proofs.slot_of.Tie as tie
+use Rattle.room.proofs.slot_of.Statement.{statement}
+use Rattle.room.proofs.slot_of.Tie as tie
 
 plain-find-requires : tie.Need-plain-find-requires
 plain-find-requires c κs = search needs
@@ -21,13 +21,13 @@ returns c =
     let f = c .before .before .before in
     let w = f .before .before in
     let a = w .before .before .before .args in
-    room-given (a .r .now) (a .align) (a .name .now) _ _ (sym (w .plain-find .ensures .0) ∙ f .f .given .1) (c .next-start .ensures)
+    (room-given (a .r .now) (a .align) (a .name .now) _ _ (sym (w .plain-find .ensures .0) ∙ f .f .given .1) (c .next-start .ensures), (refl, refl))
 
 returns-2 : tie.Need-returns-2
 returns-2 c =
     let w = c .before .before in
     let a = w .before .before .before .args in
-    room-missing (a .r .now) (a .align) (a .name .now) _ (sym (w .plain-find .ensures .0) ∙ c .enum-told .given .1)
+    (room-missing (a .r .now) (a .align) (a .name .now) _ (sym (w .plain-find .ensures .0) ∙ c .enum-told .given .1), (refl, refl))
 
 pub slot-of-spec : {M : Type 1} → statement M
 slot-of-spec =

@@ -7,11 +7,11 @@ use Rattle.walk.specs.Walk.{plain, step, listingFrom, told}
 use Rattle.walk.specs.declared.Step.the-variants.{Took}
 use Rattle.walk.proofs.Lookups.{took-inside}
 use Rattle.edit.specs.Edit.{runs, freeRuns, lowest}
-use Rattle.editor.specs.Code.{roomFor}
-use Rattle.editor.proofs.Finding.{runs-told-last, runs-past, runs-here, runs-on}
+use Rattle.room.specs.Room.{roomFor}
+use Rattle.room.proofs.Finding.{runs-told-last, runs-past, runs-here, runs-on}
 use borrow.Author.Needs.{needs}
-use Rattle.editor.proofs.free_run.Statement.{statement}
-use Rattle.editor.proofs.free_run.Tie as tie
+use Rattle.room.proofs.free_run.Statement.{statement}
+use Rattle.room.proofs.free_run.Tie as tie
 
 abbrev Inv-loop : tie.InvT-loop
 Inv-loop r align n kind from₀ from = lowest n (freeRuns r align) ≡ lowest n (runs r align from (listingFrom (plain r) r align from))
@@ -50,7 +50,7 @@ returns c =
     let w = t .before .before in
     let l = loop w in
     let a = start l .args in
-    c .last-room .ensures ∙ sym (ap (roomFor (a .kind)) (l .loop .inv ∙ runs-told-last (a .r .now) (a .align) (a .n) (l .loop .from) (sym (w .plain-step .ensures .0) ∙ t .enum-told .given .1)))
+    (c .last-room .ensures ∙ sym (ap (roomFor (a .kind)) (l .loop .inv ∙ runs-told-last (a .r .now) (a .align) (a .n) (l .loop .from) (sym (w .plain-step .ensures .0) ∙ t .enum-told .given .1))), refl)
 
 enum-known-s : tie.Need-enum-known-s Inv-loop μ-loop
 enum-known-s c = search needs
@@ -64,7 +64,7 @@ returns-2 c =
     let s = h .before .before in
     let l = loop (s .before .before) in
     let a = start l .args in
-    sym (ap (roomFor (a .kind)) (l .loop .inv ∙ runs-here (a .r .now) (a .align) (a .n) (l .loop .from) _ (said s) (sym (h .holds .ensures) ∙ c .if1 .taken)))
+    (sym (ap (roomFor (a .kind)) (l .loop .inv ∙ runs-here (a .r .now) (a .align) (a .n) (l .loop .from) _ (said s) (sym (h .holds .ensures) ∙ c .if1 .taken))), refl)
 
 loop-less : tie.Need-loop-less Inv-loop μ-loop
 loop-less c =
@@ -88,7 +88,7 @@ returns-3 : tie.Need-returns-3 Inv-loop μ-loop
 returns-3 c =
     let l = c .before .before in
     let a = start l .args in
-    c .last-room2 .ensures ∙ sym (ap (roomFor (a .kind)) (l .loop .inv ∙ runs-past (a .r .now) (a .align) (a .n) (l .loop .from) (c .before .loop-test .left)))
+    (c .last-room2 .ensures ∙ sym (ap (roomFor (a .kind)) (l .loop .inv ∙ runs-past (a .r .now) (a .align) (a .n) (l .loop .from) (c .before .loop-test .left))), refl)
 
 pub free-run-spec : {M : Type 1} → statement M
 free-run-spec =

@@ -21,8 +21,8 @@ use Rattle.walk.proofs.Places.{none-any}
 use Rattle.strict.specs.Slots.{start}
 use Rattle.strict.proofs.Keeping.{mem-any}
 use Rattle.edit.specs.Edit.{holds, runs, lowest, slotOf}
-use Rattle.editor.specs.Code.{run, roomFor, roomOf, spaceOf}
-use Rattle.editor.specs.declared.Room.the-variants.{Within, Nowhere}
+use Rattle.room.specs.Room.{run, roomFor, roomOf, spaceOf}
+use Rattle.room.specs.declared.Room.the-variants.{Within, Nowhere}
 
 -- One run.
 

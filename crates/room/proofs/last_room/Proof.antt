@@ -1,8 +1,8 @@
 use mathlib.Core.Path.{sym, _∙_}
-use Rattle.editor.proofs.Finding.{room-yes, room-no}
+use Rattle.room.proofs.Finding.{room-yes, room-no}
 use borrow.Author.Needs.{needs}
-use Rattle.editor.proofs.last_room.Statement.{statement}
-use Rattle.editor.proofs.last_room.Tie as tie
+use Rattle.room.proofs.last_room.Statement.{statement}
+use Rattle.room.proofs.last_room.Tie as tie
 
 holds-requires : tie.Need-holds-requires
 holds-requires c κs = search needs

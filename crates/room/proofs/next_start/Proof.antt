@@ -1,8 +1,8 @@
 use mathlib.Core.Path.{sym, _∙_}
-use Rattle.editor.proofs.Finding.{start-some, start-none}
+use Rattle.room.proofs.Finding.{start-some, start-none}
 use borrow.Author.Needs.{needs}
-use Rattle.editor.proofs.next_start.Statement.{statement}
-use Rattle.editor.proofs.next_start.Tie as tie
+use Rattle.room.proofs.next_start.Statement.{statement}
+use Rattle.room.proofs.next_start.Tie as tie
 
 plain-step-requires : tie.Need-plain-step-requires
 plain-step-requires c κs = search needs

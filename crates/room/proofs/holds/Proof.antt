@@ -5,8 +5,8 @@ use native.Mathlib.Omega.{arith}
 use native.Mathlib.Decide.{decLe}
 use lib.Dec.{leb}
 use borrow.Author.Tests.{le-leb, lt-leb}
-use Rattle.editor.proofs.holds.Statement.{statement}
-use Rattle.editor.proofs.holds.Tie as tie
+use Rattle.room.proofs.holds.Statement.{statement}
+use Rattle.room.proofs.holds.Tie as tie
 
 -- the test that does not wrap
 moved : (n from to : ℕ) → from ≤ to → leb n (to - from) ≡ leb (from + n) to
