@@ -7,35 +7,55 @@ mod plain;
 mod timing;
 
 use std::process::ExitCode;
-use timing::{CALLS, SIDES};
+use timing::{both, lesser, CALLS, SIDES};
 
 const SIZES: [usize; 3] = [1, 4, 16];
+// The growth is that from the first to the last of the sizes.
+const ENDS: [usize; 2] = [SIZES[0], SIZES[2]];
 // So many MiB the copies of an image take together, that calls on them in turn find none in the core's own cache. Else 1 MiB would be
-// read from a nearer cache than 16 MiB, and the growth would tell of the machine.
+// read from a nearer cache than 16 MiB, and the growth would tell of the machine. The copies of both sizes stand in the same memory, one
+// after the other, and the runs on them take turns.
 const COPIES: usize = 64;
+const MIB: usize = 1 << 20;
 const QUOTIENT: f64 = 1.25;
 const GROWTH: f64 = 20.0;
 
-// The times of a call on an image of each size, in nanoseconds, ours first: on one image again and again, and on copies in turn.
-#[derive(Clone, Copy, Default)]
+// The least times of a call in nanoseconds, ours first: on one image of each size again and again, and on copies of those at both ends in turn.
+#[derive(Clone, Copy)]
 struct Times {
     same: [[f64; 2]; SIZES.len()],
-    turn: [[f64; 2]; SIZES.len()],
+    turn: [[f64; 2]; ENDS.len()],
 }
+
+const UNTIMED: Times = Times { same: [[f64::INFINITY; 2]; SIZES.len()], turn: [[f64::INFINITY; 2]; ENDS.len()] };
 
 fn main() -> ExitCode {
     let quick = std::env::args().nth(1).is_some_and(|word| word == "quick");
     let runs = if quick { 10 } else { 200 };
     let mut differing = answers::special();
     let labels: Vec<&str> = images::cases(1).iter().map(|case| case.label).collect();
-    let mut times = vec![[Times::default(); CALLS.len()]; labels.len()];
+    let mut times = vec![[UNTIMED; CALLS.len()]; labels.len()];
     for (size, mib) in SIZES.into_iter().enumerate() {
         for (case, row) in images::cases(mib).into_iter().zip(&mut times) {
             differing += answers::compare(case.label, &case.image, &case.name);
-            let images = vec![case.image; COPIES / mib];
             for (sides, times) in SIDES.into_iter().zip(row) {
-                times.same[size] = timing::least(sides, &images[..1], &case.name, runs);
-                times.turn[size] = timing::least(sides, &images, &case.name, runs / 2);
+                for k in 0..runs {
+                    times.same[size] = lesser(times.same[size], both(sides, &[&case.image], &case.name, k));
+                }
+            }
+        }
+    }
+    let mut memory = vec![0u8; COPIES * MIB];
+    let ends = ENDS.map(images::cases);
+    for (at, row) in times.iter_mut().enumerate() {
+        for k in 0..runs / 2 {
+            for (end, cases) in ends.iter().enumerate() {
+                let case = &cases[at];
+                memory.chunks_exact_mut(case.image.len()).for_each(|copy| copy.copy_from_slice(&case.image));
+                let images: Vec<&[u8]> = memory.chunks_exact(case.image.len()).collect();
+                for (sides, times) in SIDES.into_iter().zip(&mut *row) {
+                    times.turn[end] = lesser(times.turn[end], both(sides, &images, &case.name, k));
+                }
             }
         }
     }
@@ -57,7 +77,7 @@ fn report(labels: &[&str], times: &[[Times; CALLS.len()]]) -> usize {
         for (call, t) in CALLS.iter().zip(row) {
             let [one, four, all] = t.same.map(|[ours, _]| ours / 1000.0);
             let quotients = t.same.map(|[ours, plain]| ours / plain);
-            let growth = [0, 1].map(|side| t.turn[2][side] / t.turn[0][side]);
+            let growth = [0, 1].map(|side| t.turn[1][side] / t.turn[0][side]);
             let goals = match (quotients[2] > QUOTIENT, growth[0] > GROWTH) {
                 (false, false) => "met",
                 (true, false) => "quotient MISSED",

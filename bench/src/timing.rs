@@ -17,26 +17,29 @@ pub const SIDES: [[Call; 2]; 5] = [
 ];
 
 // The time that a call takes on the images in turn, in nanoseconds.
-fn run(call: Call, images: &[Vec<u8>], name: &[u8], times: usize) -> f64 {
+fn run(call: Call, images: &[&[u8]], name: &[u8], times: usize) -> f64 {
     let began = Instant::now();
     for k in 0..times {
-        black_box(call(black_box(&images[k % images.len()]), black_box(name)));
+        black_box(call(black_box(images[k % images.len()]), black_box(name)));
     }
     began.elapsed().as_nanos() as f64 / times as f64
 }
 
-// The least time of a call on each side. The sides take turns, and each begins as often as the other.
-// A run goes over all images, and a quick call is repeated within it, for some 50 microseconds.
-pub fn least(sides: [Call; 2], images: &[Vec<u8>], name: &[u8], runs: usize) -> [f64; 2] {
+// The times of a call on each side, ours first. A run goes over all images, and a quick call is repeated within it, for some 50 microseconds.
+// The sides take turns: `first` tells which begins.
+pub fn both(sides: [Call; 2], images: &[&[u8]], name: &[u8], first: usize) -> [f64; 2] {
     let round = run(sides[0], images, name, images.len());
     let times = (50_000.0 / round).clamp(1.0, 500.0) as usize / images.len();
     let times = times.max(1) * images.len();
-    let mut least = [f64::INFINITY; 2];
-    for k in 0..runs {
-        for turn in 0..2 {
-            let side = (k + turn) % 2;
-            least[side] = least[side].min(run(sides[side], images, name, times));
-        }
+    let mut taken = [0.0; 2];
+    for turn in 0..2 {
+        let side = (first + turn) % 2;
+        taken[side] = run(sides[side], images, name, times);
     }
-    least
+    taken
+}
+
+// The lesser of each side.
+pub fn lesser(a: [f64; 2], b: [f64; 2]) -> [f64; 2] {
+    [a[0].min(b[0]), a[1].min(b[1])]
 }
