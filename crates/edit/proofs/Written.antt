@@ -19,7 +19,7 @@ use Rattle.component.specs.Component.{Component, magic, startsWithMagic, lenOf,
 use Rattle.component.proofs.Judging.{unformed}
 use Rattle.edit.specs.Edit.{fieldSize, offsetFor, headerBytes, fieldBytes, spanBytes, Run, filled}
 
--- The field has a byte more than the name, at most 16 more, and its size is a multiple of 16.
+-- The field holds a byte more than the name, has 16 to 256 bytes, and its size is a multiple of 16.
 
 pub field-room : (n : ℕ) → n < fieldSize n
 unfolding fieldSize
@@ -257,9 +257,6 @@ module _ (r : List ℕ) (x : Run) (s : List ℕ) (fits : x .from + length s ≤ 
 
   from-run : (i : ℕ) → x .from ≤ i → getD (filled r x s) i 0 ≡ getD (s ++ (ones ++ aft)) (i - x .from) 0
   from-run i h = ap (λ (l : List ℕ). getD l i 0) filled-is ∙ getD-right fore (s ++ (ones ++ aft)) i (omega (arith, fore-length)) ∙ rw fore-length
-
-  pub filled-put : (j : ℕ) → j < length s → getD (filled r x s) (x .from + j) 0 ≡ getD s j 0
-  filled-put j h = let e : x .from + j - x .from ≡ j = omega arith in from-run (x .from + j) (omega arith) ∙ rw e (List·getD-append s (ones ++ aft) 0 j h)
 
   from-ones : (i : ℕ) → x .from + length s ≤ i → getD (filled r x s) i 0 ≡ getD (ones ++ aft) (i - x .from - length s) 0
   from-ones i h = from-run i (omega arith) ∙ getD-right s (ones ++ aft) (i - x .from) (omega arith)

@@ -1,5 +1,5 @@
 -- What an edit leaves of the image: every byte outside the region as it was, and the image as long; the region's bytes are the edit's.
-use Prim.Native.Nat.{ℕ, _+_, _-_, _^_, _≤_, _<_}
+use Prim.Native.Nat.{ℕ, _+_, _-_, _≤_, _<_}
 use native.Mathlib.Omega.{arith}
 use native.Mathlib.Decide.{decLt}
 use mathlib.Core.Path.{_≡_, refl, sym, ap, _∙_}
@@ -19,8 +19,8 @@ use Rattle.editor.specs.Image.{answerOf, inImage, addIn, replaceIn, remo
 use Rattle.edit.proofs.Written.{length-span, filled-length, filled-before, filled-after, filled-part}
 use Rattle.editor.proofs.Choosing.{add-ready, replace-ready, remove-ready}
 use Rattle.editor.specs.declared.Edited.the-variants.{Done, Refused}
-use Rattle.edit.proofs.Outcomes.{Added, Replaced, Removed}
-use Rattle.edit.proofs.Theorems.{Bytes, add-done, replace-done, remove-done}
+use Rattle.edit.proofs.Outcomes.{Replaced, Removed}
+use Rattle.edit.proofs.Theorems.{Bytes, replace-done, remove-done}
 use Rattle.editor.proofs.Writing.{region-same, splice-nothing}
 
 -- The image i′ is i with y for its region's bytes.
@@ -131,12 +131,6 @@ module _ (i : List ℕ) (g : Region) where
   remove-same name x e = refused-same i g (toRemove limit r (g .align) name) x e
 
   -- What an edit that is done at q promises of the image's region afterwards; p is the place in the region.
-
-  pub add-promise : 8 ≤ g .align → (name : List ℕ) (kind : ℕ) (content : List ℕ) (q : ℕ) → kind < 256 ^ 4 → addIn i g name kind content .answer ≡ Done q
-      → (p : ℕ) × (g .start + p ≡ q) × Added r (g .align) name kind content p (bytesOf (addIn i g name kind content .image) g)
-  add-promise big name kind content q typed e =
-      let (p, h, d) = done-place i g (add limit r (g .align) name kind content) q e in
-      (p, h, rw (add-around name kind content .region) (add-done r (g .align) big name kind content p typed d))
 
   pub replace-promise : 8 ≤ g .align → Bytes i → (name content : List ℕ) (q : ℕ) → replaceIn i g name content .answer ≡ Done q
       → (p : ℕ) × (g .start + p ≡ q) × Replaced r (g .align) name content p (bytesOf (replaceIn i g name content .image) g)

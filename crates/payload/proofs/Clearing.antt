@@ -1,12 +1,12 @@
 -- Laws of test 26 as the loop over the earlier segments meets it.
-use Prim.Native.Nat.{ℕ, suc, _+_, _-_, _≤_, _<_}
+use Prim.Native.Nat.{ℕ, _+_, _-_, _≤_, _<_}
 use native.Mathlib.Numerals.{add-one}
 use native.Mathlib.Omega.{arith}
-use mathlib.Core.Path.{_≡_, refl, sym, _∙_}
+use mathlib.Core.Path.{_≡_}
 use mathlib.Core.Bool.{Bool, true, false}
-use mathlib.Core.List.{List, [], _∷_, _++_, append-assoc}
-use lib.ListN.{length, take, drop, getD, set, replicate, length-append, length-take, drop-of-length-le}
-use lib.Seq.{drop-cons, getD-take, set-at, take-at}
+use mathlib.Core.List.{List, _∷_}
+use lib.ListN.{length, take, drop, getD, length-take, drop-of-length-le}
+use lib.Seq.{drop-cons, getD-take}
 use Rattle.payload.specs.Payload.{unused, apart, clear}
 use Rattle.load.specs.declared.Segment.{Segment}
 

@@ -1,9 +1,9 @@
 -- Payload plans (document 01, "Load plans"): a component of type 0x20. Its content s is a list of records, 28 bytes each, up to the first ENTRY.
 -- The content begins at the place `at` of the image; offsets are counted from the place o.
-use Prim.Native.Nat.{ℕ, zero, suc, _+_, _-_}
+use Prim.Native.Nat.{ℕ, zero, suc, _+_}
 use mathlib.Core.List.{List, [], _∷_, _++_}
 use mathlib.Core.Bool.{Bool, true, false, cond, _||_}
-use lib.ListN.{length, replicate}
+use lib.ListN.{length}
 use lib.Dec.{leb, eqb}
 use Rattle.number.specs.Number.{be, le}
 use Rattle.number.specs.Lists.{padded}
