@@ -11,8 +11,8 @@ use lib.ListN.{length, getD, take, drop, length-take, length-drop}
 use lib.Seq.{take-take, getD-take, getD-drop, ext-getD}
 use lib.Dec.{leb, ltb, eqb}
 use borrow.Author.Tests.{leb-true, le-leb, lt-leb, ltb-true, eq-eqb, ne-eqb, eqb-true}
-use Rattle.number.specs.Number.{be}
-use Rattle.number.proofs.Digits.{be-same, be-tells}
+use Rattle.number.specs.Number.{be, le}
+use Rattle.number.proofs.Digits.{be-same, le-same, le-tells}
 use Rattle.number.specs.Bytes.{partOf, eqBytes}
 use Rattle.number.proofs.SameBytes.{eq-length, eq-true, eq-refl}
 use Rattle.number.proofs.Splice.{part-in}
@@ -46,16 +46,16 @@ small (x ∷ l) e j = go (ltb x 256) refl e j (small l)
     go false q f j ih = absurd (false≢true f)
 
 -- Eight bytes are the magic exactly if they make the same number.
-pub magic-number : (s : List ℕ) → 8 ≤ length s → ((j : ℕ) → getD s j 0 < 256) → eqb (be 8 s 0) (be 8 magic 0) ≡ startsWithMagic s
+pub magic-number : (s : List ℕ) → 8 ≤ length s → ((j : ℕ) → getD s j 0 < 256) → eqb (le 8 s 0) (le 8 magic 0) ≡ startsWithMagic s
 unfolding startsWithMagic magic all
 magic-number s l p = go (eqBytes (take 8 s) magic) refl
   where
-    go : (b : Bool) → eqBytes (take 8 s) magic ≡ b → eqb (be 8 s 0) (be 8 magic 0) ≡ eqBytes (take 8 s) magic
-    go true e = rw e (eq-eqb _ _ (be-same 8 magic s 0 (λ j _ h. sym (getD-take 8 s j 0 (omega arith)) ∙ ap (λ (x : List ℕ). getD x j 0) (eq-true (take 8 s) magic e))))
+    go : (b : Bool) → eqBytes (take 8 s) magic ≡ b → eqb (le 8 s 0) (le 8 magic 0) ≡ eqBytes (take 8 s) magic
+    go true e = rw e (eq-eqb _ _ (le-same 8 magic s 0 (λ j _ h. sym (getD-take 8 s j 0 (omega arith)) ∙ ap (λ (x : List ℕ). getD x j 0) (eq-true (take 8 s) magic e))))
     go false e = rw e (ne-eqb _ _ (λ q. true≢false (sym (ap (λ (x : List ℕ). eqBytes x magic) (same q) ∙ eq-refl magic) ∙ e)))
       where
-        same : be 8 s 0 ≡ be 8 magic 0 → take 8 s ≡ magic
-        same q = ext-getD 0 (take 8 s) magic (length-take 8 s ∙ omega arith) (λ j h. getD-take 8 s j 0 (omega (arith, length-take 8 s)) ∙ be-tells 8 s magic 0 p (small magic refl) q j (omega arith) (omega (arith, length-take 8 s)))
+        same : le 8 s 0 ≡ le 8 magic 0 → take 8 s ≡ magic
+        same q = ext-getD 0 (take 8 s) magic (length-take 8 s ∙ omega arith) (λ j h. getD-take 8 s j 0 (omega (arith, length-take 8 s)) ∙ le-tells 8 s magic 0 p (small magic refl) q j (omega arith) (omega (arith, length-take 8 s)))
 
 -- A fit field holds a name, and its length tells it.
 

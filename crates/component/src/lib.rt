@@ -21,7 +21,8 @@ pub enum Judged {
     IllFormed,
 }
 
-// The part begins with the magic. The eight bytes are compared as one number: one comparison, where a loop makes eight.
+// The part begins with the magic. The eight bytes are compared as one number: one comparison, where a loop makes eight. Little-endian, the
+// processor's own order, it is one load too, and the hunt stays small enough to be compiled into each walk.
 pub fn starts_with_magic(s: &[u8]) -> bool
     ensures { λ r. ⌜ r ≡ startsWithMagic (now (s .entry)) ⌝ }
     ensures kept { λ _. ⌜ now (s .exit) ≡ now (s .entry) ⌝ }
@@ -29,7 +30,7 @@ pub fn starts_with_magic(s: &[u8]) -> bool
     if s.len() < 8 {
         return false;
     }
-    number::be64(s, 0) == number::be64(b"LARCHIVE", 0)
+    number::le64(s, 0) == number::le64(b"LARCHIVE", 0)
 }
 
 // How many bytes stand before the first zero.

@@ -5,8 +5,8 @@ use mathlib.Core.List.{List, [], _∷_, _++_, append-assoc}
 use native.Mathlib.Nat.{div-add-mod', div-lt-iff-lt-mul, pow-suc, add-zero, zero-add, add-suc, suc-add}
 use native.Mathlib.Omega.{arith}
 use native.Mathlib.Decide.{decLt}
-use lib.ListN.{length, getD, length-append, List·getD-eq-default}
-use lib.Seq.{getD-at}
+use lib.ListN.{length, take, drop, getD, length-append, List·getD-eq-default}
+use lib.Seq.{getD-at, getD-take, getD-drop}
 use Rattle.number.specs.Number.{be, le, beBytes, leBytes}
 
 -- Past the end every number is 0.
@@ -70,15 +70,23 @@ unfolding le
 le-same zero s s′ i h = refl
 le-same (suc w) s s′ i h = rw (le-same w s s′ (i + 1) (λ j l k. h j (omega arith) (omega arith)), h i (omega arith) (omega arith))
 
--- And it tells them: two numbers that are equal have the same bytes.
-pub be-tells : (w : ℕ) (s t : List ℕ) (i : ℕ) → ((j : ℕ) → getD s j 0 < 256) → ((j : ℕ) → getD t j 0 < 256) → be w s i ≡ be w t i → (j : ℕ) → i ≤ j → j < i + w → getD s j 0 ≡ getD t j 0
+-- In a part of the bytes it is the same as in the whole.
+pub be-within : (w : ℕ) (s : List ℕ) (a n i : ℕ) → i + w ≤ n → be w (take n (drop a s)) i ≡ be w s (a + i)
 unfolding be
-be-tells zero s t i p q e j l h = absurd (omega arith)
-be-tells (suc w) s t i p q e j l h = go (decLt j (i + w)) (be-tells w s t i p q (omega (arith, p (i + w), q (i + w))) j l)
+be-within zero s a n i h = refl
+be-within (suc w) s a n i h =
+    let e : a + (i + w) ≡ a + i + w = omega arith in
+    rw (be-within w s a n i (omega arith), getD-take n (drop a s) (i + w) 0 (omega arith), getD-drop a s (i + w) 0, e)
+
+-- It tells them: two numbers that are equal have the same bytes.
+pub le-tells : (w : ℕ) (s t : List ℕ) (i : ℕ) → ((j : ℕ) → getD s j 0 < 256) → ((j : ℕ) → getD t j 0 < 256) → le w s i ≡ le w t i → (j : ℕ) → i ≤ j → j < i + w → getD s j 0 ≡ getD t j 0
+unfolding le
+le-tells zero s t i p q e j l h = absurd (omega arith)
+le-tells (suc w) s t i p q e j l h = go (decLt i j) (le-tells w s t (i + 1) p q (omega (arith, p i, q i)) j)
   where
-    go : Dec (j < i + w) → (j < i + w → getD s j 0 ≡ getD t j 0) → getD s j 0 ≡ getD t j 0
-    go (yes k) ih = ih k
-    go (no k) ih = let z : j ≡ i + w = omega arith in rw z (omega (arith, p (i + w), q (i + w)))
+    go : Dec (i < j) → (i + 1 ≤ j → j < i + 1 + w → getD s j 0 ≡ getD t j 0) → getD s j 0 ≡ getD t j 0
+    go (yes k) ih = ih (omega arith) (omega arith)
+    go (no k) ih = let z : j ≡ i = omega arith in rw z (omega (arith, p i, q i))
 
 -- What was written is read again.
 

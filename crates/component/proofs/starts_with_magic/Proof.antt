@@ -9,22 +9,22 @@ use Rattle.component.proofs.starts_with_magic.Tie as tie
 returns : tie.Need-returns
 returns c = (sym (short-no-magic (c .before .before .args .s .now) (c .if1 .taken)), refl)
 
-be64-requires : tie.Need-be64-requires
-be64-requires c κs = search needs
+le64-requires : tie.Need-le64-requires
+le64-requires c κs = search needs
 
-slice-aggregate-be64 : tie.Need-slice-aggregate-be64
-slice-aggregate-be64 c = search needs
+slice-aggregate-le64 : tie.Need-slice-aggregate-le64
+slice-aggregate-le64 c = search needs
 
-be64-requires-2 : tie.Need-be64-requires-2
-be64-requires-2 c κs = search needs
+le64-requires-2 : tie.Need-le64-requires-2
+le64-requires-2 c κs = search needs
 
 returns-2 : tie.Need-returns-2
 unfolding magic
 returns-2 c =
     let e = c .before .before .before in
     let s = e .before .before .args .s .now in
-    (rw (c .before .before .be64 .ensures .0, c .be642 .ensures .0) (magic-number s (e .if1 .left) (λ j. omega (arith, e .before .shared-slice-known .given j))), refl)
+    (rw (c .before .before .le64 .ensures .0, c .le642 .ensures .0) (magic-number s (e .if1 .left) (λ j. omega (arith, e .before .shared-slice-known .given j))), refl)
 
 pub starts-with-magic-spec : {M : Type 1} → statement M
 starts-with-magic-spec =
-    tie.close (tie.spec returns be64-requires slice-aggregate-be64 be64-requires-2 returns-2)
+    tie.close (tie.spec returns le64-requires slice-aggregate-le64 le64-requires-2 returns-2)
