@@ -14,9 +14,10 @@ use Rattle.number.proofs.Passing.{passes}
 use Rattle.terms.specs.Refusals.{test, lengthFits}
 use Rattle.terms.proofs.Orders.{all-passed}
 use Rattle.terms.specs.declared.Region.{Region}
-use Rattle.master.specs.Master.{address, back, field, romsize, bootblocksize, align, offset, headerAt, addressFits, bootblockFits, alignFits, offsetFits, tests, refusal, regionOf, master}
+use Rattle.master.specs.Master.{address, field, romsize, bootblocksize, align, offset, headerAt, addressFits, bootblockFits, alignFits, offsetFits, tests, refusal, regionOf, master}
 use Rattle.master.specs.declared.Master.the-variants.{Read, Refused}
 use Rattle.master.proofs.Power.{one-bit}
+use Rattle.master.proofs.Refusing.{length-bounds, header-room}
 
 read-some : (i : List ℕ) (g : Region) → master i ≡ Read g → (refusal i ≡ 0) × (regionOf i ≡ g)
 unfolding master
@@ -41,10 +42,10 @@ pub record Known (i : List ℕ) (g : Region) : Type 0 where
   pub header : headerAt i + 36 ≤ length i
 
 pub known : (i : List ℕ) (g : Region) → master i ≡ Read g → Known i g
-unfolding tests refusal lengthFits addressFits bootblockFits alignFits offsetFits headerAt
+unfolding tests refusal bootblockFits alignFits offsetFits
 known i g e = subst (Known i) (r .1) (record {
-  long = leb-true _ _ (l 0);
-  short = leb-true _ _ (l 1);
+  long = length-bounds i (p 0) .0;
+  short = length-bounds i (p 0) .1;
   forward = leb-true _ _ (o 1);
   inside = omega (arith, s);
   whole = eqb-true _ _ (o 0);
@@ -52,7 +53,7 @@ known i g e = subst (Known i) (r .1) (record {
   least = leb-true _ _ (a 1);
   most = leb-true _ _ (a 2);
   before = omega (arith, s, leb-true (length i - bootblocksize i) (headerAt i) (b 1));
-  header = omega (arith, leb-true (address i) 0xFFFFFFDC (d 1), leb-true (back i) (length i) (d 2));
+  header = header-room i (p 1) .1;
 })
   where
     r : (refusal i ≡ 0) × (regionOf i ≡ g)
@@ -60,12 +61,6 @@ known i g e = subst (Known i) (r .1) (record {
 
     p : (k : ℕ) → (getD (tests i) k (test 1 true)) .passed ≡ true
     p = all-passed (tests i) refl (r .0)
-
-    l : (k : ℕ) → getD (leb 64 (length i) ∷ leb (length i) 16777216 ∷ []) k true ≡ true
-    l k = passes k (leb 64 (length i) ∷ leb (length i) 16777216 ∷ []) (p 0)
-
-    d : (k : ℕ) → getD (leb 0xFFFF0000 (address i) ∷ leb (address i) 0xFFFFFFDC ∷ leb (back i) (length i) ∷ []) k true ≡ true
-    d k = passes k (leb 0xFFFF0000 (address i) ∷ leb (address i) 0xFFFFFFDC ∷ leb (back i) (length i) ∷ []) (p 1)
 
     s : romsize i ≡ length i
     s = eqb-true _ _ (p 4)

@@ -1,16 +1,53 @@
 -- Laws of the master header's tests.
-use Prim.Native.Nat.{ℕ}
+use Prim.Native.Nat.{ℕ, _+_, _≤_}
 use native.Mathlib.Nat.{mod-zero}
 use native.Mathlib.Omega.{arith}
-use mathlib.Core.Path.{_≡_}
+use mathlib.Core.Path.{_≡_, _∙_}
 use mathlib.Core.Bool.{true, false}
-use mathlib.Core.List.{List}
-use borrow.Author.Tests.{le-leb, eq-eqb, ne-eqb}
+use mathlib.Core.List.{List, [], _∷_}
+use lib.Dec.{leb}
+use lib.ListN.{length, drop, getD}
+use borrow.Author.Tests.{le-leb, leb-true, eq-eqb, ne-eqb}
+use Rattle.number.proofs.Passing.{passes}
 use Rattle.terms.specs.Terms.{refusedBy}
+use Rattle.terms.specs.Refusals.{firstFailed, lengthFits}
+use Rattle.terms.proofs.Orders.{refuses, goes-on}
 use Rattle.terms.specs.declared.Region.{Region}
 use Rattle.terms.specs.declared.Refusal.{Refusal}
-use Rattle.master.specs.Master.{offsetFits, refusal, regionOf, master}
+use Rattle.master.specs.Master.{address, back, headerAt, addressFits, offsetFits, tests, refusal, regionOf, master}
 use Rattle.master.specs.declared.Master.the-variants.{Read, Refused}
+
+-- Where test 2 is passed, 36 bytes follow where the header stands: its own 32, and P.
+pub header-room : (i : List ℕ) → addressFits i ≡ true → (back i ≤ length i) × (headerAt i + 36 ≤ length i)
+unfolding addressFits headerAt
+header-room i e = (b, omega (arith, b, leb-true (address i) 0xFFFFFFDC (d 1)))
+  where
+    d : (k : ℕ) → getD (leb 0xFFFF0000 (address i) ∷ leb (address i) 0xFFFFFFDC ∷ leb (back i) (length i) ∷ []) k true ≡ true
+    d k = passes k (leb 0xFFFF0000 (address i) ∷ leb (address i) 0xFFFFFFDC ∷ leb (back i) (length i) ∷ []) e
+
+    b : back i ≤ length i
+    b = leb-true (back i) (length i) (d 2)
+
+-- The first two tests.
+
+pub length-bounds : (i : List ℕ) → lengthFits i ≡ true → (64 ≤ length i) × (length i ≤ 16777216)
+unfolding lengthFits
+length-bounds i e = (leb-true _ _ (l 0), leb-true _ _ (l 1))
+  where
+    l : (k : ℕ) → getD (leb 64 (length i) ∷ leb (length i) 16777216 ∷ []) k true ≡ true
+    l k = passes k (leb 64 (length i) ∷ leb (length i) 16777216 ∷ []) e
+
+pub length-refused : (i : List ℕ) → lengthFits i ≡ false → refusal i ≡ 1
+unfolding refusal tests
+length-refused i e = refuses 1 _ (drop 1 (tests i)) e
+
+pub address-refused : (i : List ℕ) → lengthFits i ≡ true → addressFits i ≡ false → refusal i ≡ 2
+unfolding refusal tests
+address-refused i e f = goes-on 1 _ (drop 1 (tests i)) e ∙ refuses 2 _ (drop 2 (tests i)) f
+
+pub two-passed : (i : List ℕ) → lengthFits i ≡ true → addressFits i ≡ true → refusal i ≡ firstFailed (drop 2 (tests i))
+unfolding refusal tests
+two-passed i e f = goes-on 1 _ (drop 1 (tests i)) e ∙ goes-on 2 _ (drop 2 (tests i)) f
 
 -- Tests at an alignment of 0, of which only 0 is a multiple.
 

@@ -2,9 +2,11 @@
 use terms::Refusal;
 use terms::Region;
 ghost use mathlib.Core.Path.{_≡_};
+ghost use mathlib.Core.Bool.{true};
 ghost use Prim.Native.Nat.{_+_, _-_, _≤_};
 ghost use lib.ListN.{length};
-ghost use Rattle.master.specs.Master.{address as addressOf, headerAt, field as fieldOf, addressFits, bootblockFits, alignFits, offsetFits, romsize, bootblocksize, refusal as refusalOf, master};
+ghost use Rattle.master.specs.Master.{address as addressOf, headerAt, field as fieldOf, addressFits, bootblockFits, alignFits, offsetFits, romsize, bootblocksize, align as alignOf, offset as offsetOf, refusal as refusalOf, master};
+ghost use Rattle.terms.specs.Refusals.{lengthFits};
 
 pub enum Master {
     Read(Region),
@@ -13,35 +15,15 @@ pub enum Master {
 
 // P, the address that the last four bytes hold.
 fn address(image: &[u8]) -> u32
+    requires { ⌜ 4 ≤ length (now image) ⌝ }
     ensures { λ r. ⌜ r ≡ addressOf (now (image .entry)) ⌝ }
 {
-    if image.len() < 4 {
-        return number::le32(image, 0);
-    }
     number::le32(image, image.len() - 4)
-}
-
-// Where the header stands: as far before the image's end as P lies before 2^32.
-fn header_at(image: &[u8]) -> usize
-    ensures { λ r. ⌜ (r ≡ headerAt (now (image .entry))) × (r ≤ length (now (image .entry))) ⌝ }
-{
-    let back = 0x100000000 - address(image) as usize;
-    if image.len() < back {
-        return 0;
-    }
-    image.len() - back
-}
-
-// The header's number that stands k bytes from its start.
-fn field(image: &[u8], k: usize) -> u32
-    requires { ⌜ k ≤ 28 ⌝ }
-    ensures { λ r. ⌜ r ≡ fieldOf (now (image .entry)) k ⌝ }
-{
-    number::be32(image, header_at(image) + k)
 }
 
 // Test 2.
 fn address_fits(image: &[u8]) -> bool
+    requires { ⌜ 4 ≤ length (now image) ⌝ }
     ensures { λ r. ⌜ r ≡ addressFits (now (image .entry)) ⌝ }
 {
     let p = address(image);
@@ -57,18 +39,36 @@ fn address_fits(image: &[u8]) -> bool
     true
 }
 
+// Where the header stands: as far before the image's end as P lies before 2^32.
+fn header_at(image: &[u8]) -> usize
+    requires { ⌜ addressFits (now image) ≡ true ⌝ }
+    ensures { λ r. ⌜ (r ≡ headerAt (now (image .entry))) × (r + 36 ≤ length (now (image .entry))) ⌝ }
+{
+    let back = 0x100000000 - address(image) as usize;
+    image.len() - back
+}
+
+// The number that stands k bytes from the header's start. It is read in the header's 32 bytes: of a part that long no read needs a test.
+fn field(image: &[u8], at: usize, k: usize) -> u32
+    requires { ⌜ (at ≡ headerAt (now image)) × (at + 36 ≤ length (now image)) × (k ≤ 28) ⌝ }
+    ensures { λ r. ⌜ r ≡ fieldOf (now (image .entry)) k ⌝ }
+{
+    number::be32(&image[at..at + 32], k)
+}
+
 // Test 6.
-fn bootblock_fits(image: &[u8]) -> bool
+fn bootblock_fits(image: &[u8], at: usize) -> bool
+    requires { ⌜ (at ≡ headerAt (now image)) × (at + 36 ≤ length (now image)) ⌝ }
     ensures { λ r. ⌜ r ≡ bootblockFits (now (image .entry)) ⌝ }
 {
-    let size = field(image, 12);
-    if field(image, 8) < size {
+    let size = field(image, at, 12);
+    if field(image, at, 8) < size {
         return false;
     }
     if image.len() <= size as usize {
         return true;
     }
-    if header_at(image) < image.len() - size as usize {
+    if at < image.len() - size as usize {
         return false;
     }
     true
@@ -110,63 +110,67 @@ pub fn offset_fits(align: usize, offset: usize, end: usize) -> bool
 }
 
 // Where the region ends: romsize - bootblocksize, or 0 where the bootblock is the larger.
-fn region_end(image: &[u8]) -> usize
+fn region_end(image: &[u8], at: usize) -> usize
+    requires { ⌜ (at ≡ headerAt (now image)) × (at + 36 ≤ length (now image)) ⌝ }
     ensures { λ r. ⌜ r ≡ romsize (now (image .entry)) - bootblocksize (now (image .entry)) ⌝ }
 {
-    let size = field(image, 8) as usize;
-    let boot = field(image, 12) as usize;
+    let size = field(image, at, 8) as usize;
+    let boot = field(image, at, 12) as usize;
     if size < boot {
         return 0;
     }
     size - boot
 }
 
-// The number of the first test that the image fails, or 0.
-fn refusal(image: &[u8]) -> u32
+// The number of the first test that the image fails, or 0; the first two are passed.
+fn refusal(image: &[u8], at: usize, align: u32, offset: u32) -> u32
+    requires { ⌜ (at ≡ headerAt (now image)) × (at + 36 ≤ length (now image)) ⌝ }
+    requires passed { ⌜ (lengthFits (now image) ≡ true) × (addressFits (now image) ≡ true) ⌝ }
+    requires numbers { ⌜ (align ≡ alignOf (now image)) × (offset ≡ offsetOf (now image)) ⌝ }
     ensures { λ r. ⌜ r ≡ refusalOf (now (image .entry)) ⌝ }
 {
-    if !terms::length_fits(image) {
-        return 1;
-    }
-    if !address_fits(image) {
-        return 2;
-    }
-    if field(image, 0) != 0x4F524243 {
+    if field(image, at, 0) != 0x4F524243 {
         return 3;
     }
-    if field(image, 4) != 0x31313131 {
+    if field(image, at, 4) != 0x31313131 {
         return 4;
     }
-    if field(image, 8) as usize != image.len() {
+    if field(image, at, 8) as usize != image.len() {
         return 5;
     }
-    if !bootblock_fits(image) {
+    if !bootblock_fits(image, at) {
         return 6;
     }
-    if !align_fits(field(image, 16)) {
+    if !align_fits(align) {
         return 7;
     }
-    if !offset_fits(
-        field(image, 16) as usize,
-        field(image, 20) as usize,
-        region_end(image),
-    ) {
+    if !offset_fits(align as usize, offset as usize, region_end(image, at)) {
         return 8;
     }
     0
 }
 
-// The region of an image, or the refusal.
+// The region of an image, or the refusal. Where the header stands is worked out once, for all its numbers.
 pub fn read(image: &[u8]) -> Master
     ensures { λ r. ⌜ r ≡ master (now (image .entry)) ⌝ }
     ensures kept { λ _. ⌜ now (image .exit) ≡ now (image .entry) ⌝ }
 {
-    let start = field(image, 20) as usize;
-    let end = region_end(image);
-    let align = field(image, 16) as usize;
-    let n = refusal(image);
+    if !terms::length_fits(image) {
+        return Master::Refused(terms::refused(1));
+    }
+    if !address_fits(image) {
+        return Master::Refused(terms::refused(2));
+    }
+    let at = header_at(image);
+    let align = field(image, at, 16);
+    let offset = field(image, at, 20);
+    let n = refusal(image, at, align, offset);
     if n != 0 {
         return Master::Refused(terms::refused(n));
     }
-    Master::Read(Region { start, end, align })
+    Master::Read(Region {
+        start: offset as usize,
+        end: region_end(image, at),
+        align: align as usize,
+    })
 }

@@ -12,6 +12,9 @@ use borrow.Author.Needs.{needs}
 use Rattle.master.proofs.bootblock_fits.Statement.{statement}
 use Rattle.master.proofs.bootblock_fits.Tie as tie
 
+abbrev start : tie.After-field2 → tie.Start
+start f = f .before .before .before
+
 abbrev tests : List ℕ → ℕ → ℕ → List Bool
 tests i size at = leb size (romsize i) ∷ leb (length i - size) at ∷ []
 
@@ -25,7 +28,7 @@ returns : tie.Need-returns
 unfolding bootblockFits
 returns c =
     let f = c .before in
-    sym (rw (← f .before .field .ensures) (fails 0 (tests (f .before .before .before .args .image .now) (f .before .field .result) _) (rw (← f .field2 .ensures) (lt-leb _ _ (c .if1 .taken)))))
+    sym (rw (← f .before .field .ensures) (fails 0 (tests (start f .args .image .now) (f .before .field .result) _) (rw (← f .field2 .ensures) (lt-leb _ _ (c .if1 .taken)))))
 
 cast-if2 : tie.Need-cast-if2
 cast-if2 c = search needs
@@ -34,12 +37,9 @@ returns-2 : tie.Need-returns-2
 unfolding bootblockFits
 returns-2 c =
     let f = c .before .before in
-    let i = f .before .before .before .args .image .now in
+    let i = start f .args .image .now in
     let z : length i - f .before .field .result ≡ 0 = omega arith in
     rw (← f .before .field .ensures, ← f .field2 .ensures, le-leb _ _ (c .before .if1 .left), z, le-leb 0 (headerAt i) (omega arith))
-
-header-at-requires : tie.Need-header-at-requires
-header-at-requires c κs = search needs
 
 cast-if3 : tie.Need-cast-if3
 cast-if3 c = search needs
@@ -50,17 +50,15 @@ sub-if3 c = search needs
 returns-3 : tie.Need-returns-3
 unfolding bootblockFits
 returns-3 c =
-    let h = c .before in
-    let f = h .before .before .before in
-    let i = f .before .before .before .args .image .now in
-    sym (rw (← f .before .field .ensures) (fails 1 (tests i (f .before .field .result) (headerAt i)) (rw (← h .header-at .ensures .0) (lt-leb _ _ (c .if3 .taken)))))
+    let f = c .before .before .before in
+    let i = start f .args .image .now in
+    sym (rw (← f .before .field .ensures) (fails 1 (tests i (f .before .field .result) (headerAt i)) (rw (← start f .pre .0) (lt-leb _ _ (c .if3 .taken)))))
 
 returns-4 : tie.Need-returns-4
 unfolding bootblockFits
 returns-4 c =
-    let h = c .before in
-    let f = h .before .before .before in
-    rw (← f .before .field .ensures, ← f .field2 .ensures, le-leb _ _ (h .before .before .if1 .left), ← h .header-at .ensures .0, le-leb _ _ (c .if3 .left))
+    let f = c .before .before .before in
+    rw (← f .before .field .ensures, ← f .field2 .ensures, le-leb _ _ (c .before .before .if1 .left), ← start f .pre .0, le-leb _ _ (c .if3 .left))
 
 pub bootblock-fits-spec : {M : Type 1} → statement M
 bootblock-fits-spec =
@@ -71,7 +69,6 @@ bootblock-fits-spec =
     returns
     cast-if2
     returns-2
-    header-at-requires
     cast-if3
     sub-if3
     returns-3
