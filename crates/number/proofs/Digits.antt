@@ -53,11 +53,6 @@ pub le-one : (s : List ℕ) (i : ℕ) → getD s i 0 ≡ le 1 s i
 unfolding le
 le-one s i = omega arith
 
--- Four bytes, one by one.
-pub be-four : (s : List ℕ) (i : ℕ) → getD s i 0 * 16777216 + getD s (i + 1) 0 * 65536 + getD s (i + 2) 0 * 256 + getD s (i + 3) 0 ≡ be 4 s i
-unfolding be
-be-four s i = rw (add-zero i) (omega arith)
-
 -- A number is told by its own bytes.
 
 pub be-same : (w : ℕ) (s s′ : List ℕ) (i : ℕ) → ((j : ℕ) → i ≤ j → j < i + w → getD s′ j 0 ≡ getD s j 0) → be w s′ i ≡ be w s i

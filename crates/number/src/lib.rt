@@ -1,7 +1,7 @@
 // Numbers in bytes, read and written; bytes copied, filled and compared.
 // Every function takes any bytes and any numbers: a byte past the end reads as 0, and a write that does not fit writes nothing.
 ghost use mathlib.Core.Path.{_≡_};
-ghost use Prim.Native.Nat.{_+_, _*_, _%_};
+ghost use Prim.Native.Nat.{_%_};
 ghost use mathlib.Core.List.{[], _∷_};
 ghost use lib.ListN.{length, drop, getD, replicate};
 ghost use Rattle.number.specs.Number.{be, le, beBytes, leBytes};
@@ -26,23 +26,13 @@ pub fn be16(s: &[u8], at: usize) -> u16
     byte(s, at) as u16 * 256 + byte(s, at + 1) as u16
 }
 
-// Four bytes as one number, the first the highest.
-fn word(a: u8, b: u8, c: u8, d: u8) -> u32
-    ensures { λ r. ⌜ r ≡ a * 16777216 + b * 65536 + c * 256 + d ⌝ }
-{
-    a as u32 * 16777216 + b as u32 * 65536 + c as u32 * 256 + d as u32
-}
-
-// The big-endian 32-bit number at `at`. Where all four bytes are there they are read without a test for each: one load.
+// The big-endian 32-bit number at `at`.
 pub fn be32(s: &[u8], at: usize) -> u32
     ensures { λ r. ⌜ r ≡ be 4 (now (s .entry)) at ⌝ }
     ensures kept { λ _. ⌜ now (s .exit) ≡ now (s .entry) ⌝ }
 {
     if s.len() <= at {
         return 0;
-    }
-    if 4 <= s.len() - at {
-        return word(s[at], s[at + 1], s[at + 2], s[at + 3]);
     }
     be16(s, at) as u32 * 65536 + be16(s, at + 2) as u32
 }

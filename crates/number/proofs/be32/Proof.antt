@@ -1,43 +1,11 @@
-use mathlib.Core.Path.{refl, sym, _∙_}
-use Rattle.number.proofs.Digits.{be-past, be-join, be-four}
+use mathlib.Core.Path.{refl, sym}
+use Rattle.number.proofs.Digits.{be-past, be-join}
 use borrow.Author.Needs.{needs}
 use Rattle.number.proofs.be32.Statement.{statement}
 use Rattle.number.proofs.be32.Tie as tie
 
 returns : tie.Need-returns
 returns c = (sym (be-past 4 (c .before .before .args .s .now) _ (c .if1 .taken)), refl)
-
-sub-if2 : tie.Need-sub-if2
-sub-if2 c = search needs
-
-shared-slice-read-word : tie.Need-shared-slice-read-word
-shared-slice-read-word c = search needs
-
-add-word : tie.Need-add-word
-add-word c = search needs
-
-shared-slice-read-word-2 : tie.Need-shared-slice-read-word-2
-shared-slice-read-word-2 c = search needs
-
-add-word-2 : tie.Need-add-word-2
-add-word-2 c = search needs
-
-shared-slice-read-word-3 : tie.Need-shared-slice-read-word-3
-shared-slice-read-word-3 c = search needs
-
-add-word-3 : tie.Need-add-word-3
-add-word-3 c = search needs
-
-shared-slice-read-word-4 : tie.Need-shared-slice-read-word-4
-shared-slice-read-word-4 c = search needs
-
-word-requires : tie.Need-word-requires
-word-requires c κs = search needs
-
-returns-2 : tie.Need-returns-2
-returns-2 c =
-    let a = c .before .before .before .before .before .before .before .before .args in
-    (c .word .ensures ∙ be-four (a .s .now) (a .at), refl)
 
 be16-requires : tie.Need-be16-requires
 be16-requires c κs = search needs
@@ -60,24 +28,14 @@ cast-result-2 c = search needs
 add-result : tie.Need-add-result
 add-result c = search needs
 
-returns-3 : tie.Need-returns-3
-returns-3 c = let a = c .before .before .before .before .before .args in (be-join 2 (a .s .now) (a .at) (c .before .be16 .ensures .0) (c .be162 .ensures .0), refl)
+returns-2 : tie.Need-returns-2
+returns-2 c = let a = c .before .before .before .before .args in (be-join 2 (a .s .now) (a .at) (c .before .be16 .ensures .0) (c .be162 .ensures .0), refl)
 
 pub be32-spec : {M : Type 1} → statement M
 be32-spec =
     tie.close
     (tie.spec
     returns
-    sub-if2
-    shared-slice-read-word
-    add-word
-    shared-slice-read-word-2
-    add-word-2
-    shared-slice-read-word-3
-    add-word-3
-    shared-slice-read-word-4
-    word-requires
-    returns-2
     be16-requires
     cast-result
     mul-result
@@ -85,4 +43,4 @@ be32-spec =
     be16-requires-2
     cast-result-2
     add-result
-    returns-3)
+    returns-2)
