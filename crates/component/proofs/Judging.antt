@@ -9,20 +9,20 @@ use mathlib.Core.Bool.{Bool, true, false, cond, true≢false, false≢true}
 use mathlib.Core.Option.{Option, some, none, Option·some-injective, Option·none-ne-some}
 use lib.ListN.{length, getD, take, drop, length-take, length-drop}
 use lib.Seq.{take-take, getD-take, getD-drop, ext-getD}
-use lib.Dec.{leb, ltb, eqb}
-use borrow.Author.Tests.{leb-true, le-leb, lt-leb, ltb-true, eq-eqb, ne-eqb, eqb-true}
+use lib.Dec.{ltb, eqb}
+use borrow.Author.Tests.{leb-true, le-leb, ltb-true, eq-eqb, ne-eqb, eqb-true}
 use Rattle.number.specs.Number.{be, le}
 use Rattle.number.proofs.Digits.{be-same, le-same, le-tells}
 use Rattle.number.specs.Bytes.{partOf, eqBytes}
 use Rattle.number.proofs.SameBytes.{eq-length, eq-true, eq-refl}
 use Rattle.number.proofs.Splice.{part-in}
 use Rattle.number.specs.Tests.{every, all}
-use Rattle.component.specs.Names.{beforeZero, nameTests, nameFits, fieldTests, fieldFits, nameLength}
-use Rattle.component.specs.Component.{magic, startsWithMagic, lenOf, kindOf, offsetOf, nameField, Component, span, componentOf, headerTests, offsetNear, wellFormed, fields, judge, judged, headerOf, nameOf, contentOf}
+use Rattle.component.specs.Names.{beforeZero, nameFits, fieldFits, nameLength}
+use Rattle.component.specs.Component.{magic, startsWithMagic, lenOf, kindOf, offsetOf, nameField, Component, span, componentOf, headerTests, wellFormed, fields, judge, judged, headerOf, nameOf, contentOf}
 use Rattle.component.specs.declared.Header.{Header}
 use Rattle.component.specs.declared.Judged.the-variants.{WellFormed, IllFormed}
 use Rattle.number.proofs.Passing.{fails, passes}
-use Rattle.component.proofs.Scan.{before-take, before-le}
+use Rattle.component.proofs.Naming.{before-take, before-le, field-name, length-fit}
 
 -- The magic
 
@@ -57,70 +57,11 @@ magic-number s l p = go (eqBytes (take 8 s) magic) refl
         same : le 8 s 0 ≡ le 8 magic 0 → take 8 s ≡ magic
         same q = ext-getD 0 (take 8 s) magic (length-take 8 s ∙ omega arith) (λ j h. getD-take 8 s j 0 (omega (arith, length-take 8 s)) ∙ le-tells 8 s magic 0 p (small magic refl) q j (omega arith) (omega (arith, length-take 8 s)))
 
--- A fit field holds a name, and its length tells it.
-
-pub field-name : (f : List ℕ) → fieldFits f ≡ true → nameFits (beforeZero f) ≡ true
-unfolding fieldFits fieldTests
-field-name f e = passes 1 (fieldTests f (beforeZero f)) e
-
-fit-long : (n : List ℕ) → nameFits n ≡ true → 1 ≤ length n
-unfolding nameFits nameTests
-fit-long n e = leb-true 1 (length n) (passes 0 (nameTests n) e)
-
-pub length-fit : (f : List ℕ) → fieldFits f ≡ true → nameLength f ≡ length (beforeZero f)
-unfolding nameLength
-length-fit f e = rw e
-
-pub length-zero : (f : List ℕ) → nameLength f ≡ 0 → fieldFits f ≡ false
-unfolding nameLength
-length-zero f z = go (fieldFits f) refl
-  where
-    go : (b : Bool) → fieldFits f ≡ b → b ≡ false
-    go false e = refl
-    go true e = absurd (omega (arith, z, length-fit f e, fit-long (beforeZero f) (field-name f e)))
-
-pub length-pos : (f : List ℕ) (n : ℕ) → n ≡ nameLength f → (n ≡ 0 → ⊥) → fieldFits f ≡ true
-unfolding nameLength
-length-pos f n q h = go (fieldFits f) refl q
-  where
-    go : (b : Bool) → fieldFits f ≡ b → n ≡ cond b (length (beforeZero f)) 0 → fieldFits f ≡ true
-    go true e p = e
-    go false e p = absurd (h p)
-
 -- The fields, by the tests on the offset o and the length l that were read.
 
 pub fields-bad : (s : List ℕ) (o l k : ℕ) → o ≡ offsetOf s → l ≡ lenOf s → getD (headerTests s o l) k true ≡ false → IllFormed ≡ judged (fields s)
 unfolding fields wellFormed
 fields-bad s o l k eo el h = rw (← eo, ← el, fails k (headerTests s o l) h)
-
--- A quick look that fails.
-pub fields-far : (s : List ℕ) → offsetNear s ≡ false → IllFormed ≡ judged (fields s)
-unfolding offsetNear headerTests
-fields-far s e = go (leb 24 (length s)) (leb 40 (offsetOf s)) (leb (offsetOf s) 280) refl refl refl e
-  where
-    go : (a b c : Bool) → leb 24 (length s) ≡ a → leb 40 (offsetOf s) ≡ b → leb (offsetOf s) 280 ≡ c → every (a ∷ b ∷ c ∷ []) ≡ false → IllFormed ≡ judged (fields s)
-    go false b c p q r h = fields-bad s (offsetOf s) (lenOf s) 0 refl refl p
-    go true false c p q r h = fields-bad s (offsetOf s) (lenOf s) 1 refl refl q
-    go true true false p q r h = fields-bad s (offsetOf s) (lenOf s) 2 refl refl r
-    go true true true p q r h = absurd (true≢false h)
-
--- What it says, by the offset o that was read.
-
-pub near-short : (s : List ℕ) → length s < 24 → false ≡ offsetNear s
-unfolding offsetNear
-near-short s h = rw (lt-leb 24 (length s) h)
-
-pub near-small : (s : List ℕ) (o : ℕ) → o ≡ offsetOf s → 24 ≤ length s → o < 40 → false ≡ offsetNear s
-unfolding offsetNear
-near-small s o e l h = rw (← e, le-leb 24 (length s) l, lt-leb 40 o h)
-
-pub near-last : (s : List ℕ) (o : ℕ) → o ≡ offsetOf s → 24 ≤ length s → 40 ≤ o → leb o 280 ≡ offsetNear s
-unfolding offsetNear
-near-last s o e l h = rw (← e, le-leb 24 (length s) l, le-leb 40 o h) (one (leb o 280))
-  where
-    one : (b : Bool) → b ≡ every (b ∷ [])
-    one true = refl
-    one false = refl
 
 pub fields-good : (s : List ℕ) (h : Header) → h .offset ≡ offsetOf s → h .len ≡ lenOf s → h .kind ≡ kindOf s
     → h .named ≡ nameLength (take (h .offset - 24) (drop 24 s)) → every (headerTests s (h .offset) (h .len)) ≡ true → WellFormed h ≡ judged (fields s)

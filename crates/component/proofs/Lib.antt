@@ -1,3 +1,3 @@
-pub mod Scan
+pub mod Naming
 pub mod Judging
 pub mod Worked

@@ -1,4 +1,4 @@
--- Laws of names and their fields, as a loop over the indices meets them.
+-- Laws of names and their fields: as a loop over the indices meets them, test by test, and what the length of a name tells.
 use Prim.Native.Nat.{ℕ, suc, _+_, _-_, _≤_, _<_}
 use mathlib.Core.Path.{_≡_, refl, sym, ap}
 use mathlib.Core.Bool.{Bool, true, false, cond}
@@ -9,9 +9,9 @@ use native.Mathlib.Omega.{arith}
 use lib.ListN.{length, take, drop, getD, drop-of-length-le}
 use lib.Seq.{drop-cons}
 use lib.Dec.{eqb}
-use borrow.Author.Tests.{eq-eqb, ne-eqb, le-leb}
-use Rattle.number.specs.Tests.{every, all}
-use Rattle.number.proofs.Passing.{fails, every-last}
+use borrow.Author.Tests.{eq-eqb, ne-eqb, le-leb, leb-true}
+use Rattle.number.specs.Tests.{all}
+use Rattle.number.proofs.Passing.{fails, passes, every-last}
 use Rattle.component.specs.Names.{isPrintable, nameTests, nameFits, beforeZero, fieldTests, fieldFits, nameLength}
 
 -- beforeZero
@@ -62,6 +62,32 @@ pub field-bad : (f : List ℕ) (k : ℕ) → getD (fieldTests f (beforeZero f)) 
 unfolding nameLength fieldFits
 field-bad f k h = rw (fails k (fieldTests f (beforeZero f)) h)
 
-pub field-good : (f : List ℕ) → every (fieldTests f (beforeZero f)) ≡ true → length (beforeZero f) ≡ nameLength f
-unfolding nameLength fieldFits
-field-good f h = rw h
+-- A fit field holds a name, and its length tells it.
+
+pub field-name : (f : List ℕ) → fieldFits f ≡ true → nameFits (beforeZero f) ≡ true
+unfolding fieldFits fieldTests
+field-name f e = passes 1 (fieldTests f (beforeZero f)) e
+
+fit-long : (n : List ℕ) → nameFits n ≡ true → 1 ≤ length n
+unfolding nameFits nameTests
+fit-long n e = leb-true 1 (length n) (passes 0 (nameTests n) e)
+
+pub length-fit : (f : List ℕ) → fieldFits f ≡ true → nameLength f ≡ length (beforeZero f)
+unfolding nameLength
+length-fit f e = rw e
+
+pub length-zero : (f : List ℕ) → nameLength f ≡ 0 → fieldFits f ≡ false
+unfolding nameLength
+length-zero f z = go (fieldFits f) refl
+  where
+    go : (b : Bool) → fieldFits f ≡ b → b ≡ false
+    go false e = refl
+    go true e = absurd (omega (arith, z, length-fit f e, fit-long (beforeZero f) (field-name f e)))
+
+pub length-pos : (f : List ℕ) (n : ℕ) → n ≡ nameLength f → (n ≡ 0 → ⊥) → fieldFits f ≡ true
+unfolding nameLength
+length-pos f n q h = go (fieldFits f) refl q
+  where
+    go : (b : Bool) → fieldFits f ≡ b → n ≡ cond b (length (beforeZero f)) 0 → fieldFits f ≡ true
+    go true e p = e
+    go false e p = absurd (h p)

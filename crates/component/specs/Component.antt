@@ -69,10 +69,6 @@ headerTests s o l =
     ∷ fieldFits (take (o - 24) (drop 24 s))
     ∷ []
 
--- The first three of them, for a quick look.
-unfoldable pub offsetNear : List ℕ → Bool
-offsetNear s = every (leb 24 (length s) ∷ leb 40 (offsetOf s) ∷ leb (offsetOf s) 280 ∷ [])
-
 unfoldable pub wellFormed : List ℕ → Bool
 wellFormed s = every (headerTests s (offsetOf s) (lenOf s))
 

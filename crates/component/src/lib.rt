@@ -1,10 +1,12 @@
 // A CBFS component: the magic, the header's judge, and names (document 01, "Components and the two walks").
 // A part is what begins at a component's place and goes up to the region's end.
 ghost use mathlib.Core.Path.{_≡_};
+ghost use mathlib.Core.Bool.{false};
 ghost use lib.ListN.{length};
 ghost use Rattle.number.specs.Tests.{all};
 ghost use Rattle.component.specs.Names.{isPrintable, isZero, nameFits, beforeZero, nameLength};
-ghost use Rattle.component.specs.Component.{startsWithMagic, offsetNear, fields as fieldsOf, judge as judgeOf, judged, nameOf, contentOf};
+ghost use Rattle.component.specs.Component.{startsWithMagic, fields as fieldsOf, judge as judgeOf, judged, nameOf, contentOf};
+ghost use Rattle.component.specs.declared.Judged.the-variants.{IllFormed};
 
 // The numbers of a well-formed header.
 pub struct Header {
@@ -111,9 +113,9 @@ pub fn name_length(f: &[u8]) -> usize
     n
 }
 
-// A quick look: the header is there, and its offset is neither too small nor too large.
-fn offset_near(s: &[u8]) -> bool
-    ensures { λ r. ⌜ r ≡ offsetNear (now (s .entry)) ⌝ }
+// A quick look: the header is there, and its offset is one that a well-formed header can have. Where it is not, the header is ill formed.
+fn offset_possible(s: &[u8]) -> bool
+    ensures { λ r. ⌜ (r ≡ false → IllFormed ≡ judged (fieldsOf (now (s .entry)))) ⌝ }
 {
     if 24 <= s.len() {
         let o = number::be32(s, 20);
@@ -164,7 +166,7 @@ pub fn fields(s: &[u8]) -> Judged
     ensures { λ j. ⌜ j ≡ judged (fieldsOf (now (s .entry))) ⌝ }
     ensures kept { λ _. ⌜ now (s .exit) ≡ now (s .entry) ⌝ }
 {
-    if !offset_near(s) {
+    if !offset_possible(s) {
         return Judged::IllFormed;
     }
     all_fields(s)

@@ -1,7 +1,8 @@
 use mathlib.Core.Path.{sym, refl, _∙_}
 use borrow.Author.Tests.{le-leb, lt-leb, eq-eqb, ne-eqb}
 use Rattle.component.specs.Component.{headerTests}
-use Rattle.component.proofs.Judging.{fields-bad, fields-good, length-zero, length-pos}
+use Rattle.component.proofs.Naming.{length-zero, length-pos}
+use Rattle.component.proofs.Judging.{fields-bad, fields-good}
 use borrow.Author.Needs.{needs}
 use Rattle.component.proofs.all_fields.Statement.{statement}
 use Rattle.component.proofs.all_fields.Tie as tie

@@ -4,7 +4,7 @@ use native.Mathlib.Omega.{arith}
 use native.Mathlib.Nat.{zero-add}
 use lib.ListN.{length, drop}
 use Rattle.component.specs.Names.{beforeZero}
-use Rattle.component.proofs.Scan.{zero-here, zero-not, zero-done}
+use Rattle.component.proofs.Naming.{zero-here, zero-not, zero-done}
 use borrow.Author.Needs.{needs}
 use Rattle.component.proofs.before_zero.Statement.{statement}
 use Rattle.component.proofs.before_zero.Tie as tie

@@ -1,4 +1,4 @@
-use Rattle.component.proofs.Scan.{name-bad, name-rest}
+use Rattle.component.proofs.Naming.{name-bad, name-rest}
 use mathlib.Core.Path.{refl, _∙_}
 use borrow.Author.Tests.{lt-leb}
 use Rattle.component.specs.Names.{nameTests}

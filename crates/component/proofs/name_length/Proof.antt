@@ -5,9 +5,9 @@ use native.Mathlib.Nat.{sub-zero}
 use lib.ListN.{length, take, drop}
 use borrow.Author.Tests.{le-ltb, lt-ltb, not-true, not-false}
 use Rattle.number.specs.Tests.{all}
-use Rattle.component.specs.Names.{isZero, beforeZero, nameFits, fieldTests}
+use Rattle.component.specs.Names.{isZero, beforeZero, nameFits, fieldTests, fieldFits}
 use Rattle.number.proofs.Splice.{rest}
-use Rattle.component.proofs.Scan.{before-take, field-bad, field-good}
+use Rattle.component.proofs.Naming.{before-take, field-bad, length-fit}
 use borrow.Author.Needs.{needs}
 use Rattle.component.proofs.name_length.Statement.{statement}
 use Rattle.component.proofs.name_length.Tie as tie
@@ -76,12 +76,12 @@ returns-3 c =
     (field-bad (start z .args .f .now) 2 (zeros (c .before) ∙ not-true _ (c .if3 .taken)), refl)
 
 returns-4 : tie.Need-returns-4
-unfolding fieldTests
+unfolding fieldTests fieldFits
 returns-4 c =
     let n = c .before .before .before in
     let e = n .before .before .before in
     let z = e .before in
-    (sym (long z) ∙ field-good (start z .args .f .now) (rw (zeros (c .before) ∙ not-false _ (c .if3 .left), fit (n .before) ∙ not-false _ (n .if2 .left), long z, lt-ltb _ _ (e .if1 .left))), refl)
+    (sym (long z) ∙ sym (length-fit (start z .args .f .now) (rw (zeros (c .before) ∙ not-false _ (c .if3 .left), fit (n .before) ∙ not-false _ (n .if2 .left), long z, lt-ltb _ _ (e .if1 .left)))), refl)
 
 pub name-length-spec : {M : Type 1} → statement M
 name-length-spec =
