@@ -61,14 +61,14 @@ fn bootblock_fits(image: &[u8], at: usize) -> bool
     requires { ⌜ (at ≡ headerAt (now image)) × (at + 36 ≤ length (now image)) ⌝ }
     ensures { λ r. ⌜ r ≡ bootblockFits (now (image .entry)) ⌝ }
 {
-    let size = field(image, at, 12);
-    if field(image, at, 8) < size {
+    let boot = field(image, at, 12);
+    if field(image, at, 8) < boot {
         return false;
     }
-    if image.len() <= size as usize {
+    if image.len() <= boot as usize {
         return true;
     }
-    if at < image.len() - size as usize {
+    if at < image.len() - boot as usize {
         return false;
     }
     true
