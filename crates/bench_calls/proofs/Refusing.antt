@@ -2,7 +2,7 @@
 use Prim.Native.Nat.{ℕ, _≤_, _<_}
 use native.Mathlib.Omega.{arith}
 use mathlib.Core.Path.{_≡_, refl, sym, ap, _∙_}
-use mathlib.Core.List.{List, []}
+use mathlib.Core.List.{List}
 use mathlib.Core.Logic.{_⊎_, inl, inr}
 use mathlib.Core.Bool.{Bool}
 use lib.ListN.{length}
@@ -16,21 +16,18 @@ use Rattle.master.specs.Master.{master}
 use Rattle.master.specs.declared.Master.{Master}
 use Rattle.master.specs.declared.Master.the-variants.{Read}
 use Rattle.master.specs.declared.Master.the-variants.{Refused as HeaderRefused}
-use Rattle.master.proofs.Facts.{Known, known}
+use Rattle.master.proofs.Facts.{Known, known, refused-place}
 use Rattle.strict.specs.Strict.{limit, Verdict, verdict, accepted}
 use Rattle.strict.specs.Strict.{refused as refusedAt}
 use Rattle.strict.specs.Directory.{directory}
 use Rattle.strict.proofs.Verdicts.{no-other, refused-12-lowest}
 use Rattle.region.specs.Region.{foundAt}
 use Rattle.region.specs.declared.Found.the-variants.{Refused as LookupRefused}
-use Rattle.stage.specs.declared.StagePlan.{StagePlan}
 use Rattle.cbfs.specs.Cbfs.{findOf, strictCheck}
-use Rattle.claims.proofs.Accepting.{refused-number}
-use Rattle.claims.proofs.Plans.{stage-refused}
 
--- The master header's refusals tell place 0, as those of the stages of such an image do.
+-- The master header's refusals tell place 0.
 pub header-place : (i : List ℕ) (r : Refusal) → master i ≡ HeaderRefused r → r .place ≡ 0
-header-place i r e = ap (λ (p : StagePlan). p .place) (rw e at (stage-refused i [] (λ z. refused-number i r e (rw e at z))))
+header-place i r e = ap (λ (x : Refusal). x .place) (refused-place i r e)
 
 -- A lookup's refusals tell place 0.
 pub lookup-place : (w : Bool) (i name : List ℕ) (r : Refusal) → findOf w i name ≡ LookupRefused r → r .place ≡ 0

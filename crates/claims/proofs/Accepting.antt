@@ -1,42 +1,26 @@
 -- What the strict check's answer says of a whole image.
 use Prim.Native.Nat.{ℕ, _+_}
 use native.Mathlib.Omega.{arith}
-use mathlib.Core.Path.{_≡_, refl, ap, _∙_}
+use mathlib.Core.Path.{_≡_, refl}
 use mathlib.Core.List.{List, map}
 use mathlib.Core.Logic.{_↔_, _⊎_, inl, inr}
-use mathlib.Core.Bool.{Bool, true, false, cond}
+use mathlib.Core.Bool.{Bool}
 use lib.ListN.{length, length-map}
-use lib.Dec.{eqb}
-use borrow.Author.Tests.{eqb-false}
 use Rattle.walk.specs.Walk.{plainListing, guardedListing}
-use Rattle.terms.specs.Terms.{bytesOf, refusedBy}
+use Rattle.terms.specs.Terms.{bytesOf}
 use Rattle.terms.specs.declared.Region.{Region}
-use Rattle.terms.specs.declared.Refusal.{Refusal}
-use Rattle.master.specs.Master.{refusal, regionOf, master}
+use Rattle.master.specs.Master.{master}
 use Rattle.master.specs.declared.Master.{Master}
 use Rattle.master.specs.declared.Master.the-variants.{Read, Refused}
+use Rattle.master.proofs.Facts.{refused-number}
 use Rattle.number.specs.Lists.{padded}
-use Rattle.strict.specs.Strict.{limit, Accepted, Verdict, refused, accepted, placesOf, verdict}
+use Rattle.strict.specs.Strict.{limit, Verdict, refused, accepted, placesOf, verdict}
 use Rattle.strict.specs.Directory.{directory}
 use Rattle.strict.proofs.Verdicts.{accepted-exactly, no-other}
 use Rattle.strict.proofs.Accepting.{walks-agree}
 use Rattle.cbfs.specs.Cbfs.{strictCheck}
-use Rattle.claims.specs.Demand3.{Spoiled, Demand3}
+use Rattle.claims.specs.Demand3.{AcceptedImage, Spoiled, Demand3}
 use Rattle.claims.proofs.Spoiling.{demand-3}
-
--- A refusal of the master header has a number that is not 0.
-pub refused-number : (i : List ℕ) (r : Refusal) → master i ≡ Refused r → r .number ≡ 0 → ⊥
-unfolding master
-refused-number i r e z = go (eqb (refusal i) 0) refl e
-  where
-    go : (b : Bool) → eqb (refusal i) 0 ≡ b → cond b (Read (regionOf i)) (Refused (refusedBy (refusal i))) ≡ Refused r → ⊥
-    go true q f = let y : _≡_ {A = ℕ} 0 1 = cc in omega arith
-    go false q f = let s : refusedBy (refusal i) ≡ r = cc in eqb-false _ _ q (ap (λ (x : Refusal). x .number) s ∙ z)
-
--- The image's region, and that the strict check accepts it.
-pub record AcceptedImage (i : List ℕ) (g : Region) : Type 0 where
-  pub read : master i ≡ Read g
-  pub acc : Accepted (bytesOf i g) (g .align)
 
 -- The strict check gives number 0 exactly if the image has a region and every place with the magic in it is one the plain walk takes, there
 -- are at most 256 components, and no two names are equal.

@@ -18,9 +18,9 @@ use Rattle.master.proofs.Facts.{Known, known, same-region}
 use Rattle.strict.specs.Strict.{limit, Accepted}
 use Rattle.strict.proofs.Keeping.{both-true}
 use Rattle.strict.specs.Slots.{start, within, hit}
-use Rattle.edit.specs.Edit.{spanBytes, putIn, instead, without, add, replace, remove}
+use Rattle.edit.specs.Edit.{Bytes, spanBytes, putIn, instead, without, add, replace, remove}
 use Rattle.edit.proofs.Outcomes.{Finds, Others, Added, Replaced, Removed}
-use Rattle.edit.proofs.Theorems.{Bytes, add-accepted, add-done}
+use Rattle.edit.proofs.Theorems.{add-accepted, add-done}
 use Rattle.edit.proofs.Exactly.{held-exactly, Undone, add-undone}
 use Rattle.editor.specs.Image.{addIn, replaceIn, removeIn}
 use Rattle.editor.specs.declared.Edited.the-variants.{Done}
@@ -29,10 +29,10 @@ use Rattle.region.specs.Region.{takenAt, foundAt}
 use Rattle.region.specs.declared.Found.the-variants.{At}
 use Rattle.region.specs.declared.Found.the-variants.{Refused as FoundRefused}
 use Rattle.cbfs.specs.Cbfs.{findOf, contentFoundBy, removed}
-use Rattle.claims.specs.Demand3.{placed, guardedEntries, inSlots}
+use Rattle.claims.specs.Demand3.{AcceptedImage, placed, guardedEntries, inSlots}
 use Rattle.claims.specs.Demand2.{entries, entryAt, FoundThere, Leaves, AddDone, ReplaceDone, RemoveDone}
 use Rattle.claims.proofs.Images.{keep-map, bytes-length, bytes-at, slot-inner, same-told, through}
-use Rattle.claims.proofs.Accepting.{AcceptedImage, strict-check-accepts}
+use Rattle.claims.proofs.Accepting.{strict-check-accepts}
 
 -- Places told from another start compare as before.
 

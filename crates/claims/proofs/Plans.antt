@@ -1,17 +1,15 @@
 -- What is known of every plan of a whole image i, over the definitions that the contracts of `stage` and `payload` cite.
 use Prim.Native.Nat.{ℕ}
-use native.Mathlib.Omega.{arith}
-use mathlib.Core.Path.{_≡_, refl, sym, ap, subst, _∙_}
+use mathlib.Core.Path.{_≡_, refl, sym, ap, _∙_}
 use mathlib.Core.List.{List}
-use mathlib.Core.Bool.{Bool, true, false, cond}
-use lib.Dec.{eqb}
 use Rattle.terms.specs.Terms.{refusedBy}
 use Rattle.terms.specs.declared.Region.{Region}
 use Rattle.terms.specs.declared.Refusal.{Refusal}
 use Rattle.walk.specs.declared.Taken.{Taken}
-use Rattle.master.specs.Master.{refusal, regionOf, master}
+use Rattle.master.specs.Master.{refusal, master}
 use Rattle.master.specs.declared.Master.{Master}
 use Rattle.master.specs.declared.Master.the-variants.{Read, Refused}
+use Rattle.master.proofs.Facts.{refused-number, refused-place}
 use Rattle.region.specs.declared.Found.the-variants.{At}
 use Rattle.stage.specs.Stage.{refusedStage, stageIn}
 use Rattle.payload.specs.Payload.{refusedPayload, payloadIn}
@@ -20,16 +18,6 @@ use Rattle.payload.specs.Accepted.{AcceptedPayload}
 use Rattle.stage.proofs.Theorems as Stage
 use Rattle.payload.proofs.Theorems as Payload
 use Rattle.cbfs.specs.Cbfs.{guardedFind, guardedContent, planOn, stage, payload}
-use Rattle.claims.proofs.Accepting.{refused-number}
-
--- A refusal of the master header tells place 0.
-refused-place : (i : List ℕ) (r : Refusal) → master i ≡ Refused r → r ≡ refusedBy (r .number)
-unfolding master
-refused-place i r e = go (eqb (refusal i) 0) e
-  where
-    go : (b : Bool) → cond b (Read (regionOf i)) (Refused (refusedBy (refusal i))) ≡ Refused r → r ≡ refusedBy (r .number)
-    go true f = let z : _≡_ {A = ℕ} 0 1 = cc in absurd (omega arith)
-    go false f = let z : refusedBy (refusal i) ≡ r = cc in subst (λ (x : Refusal). x ≡ refusedBy (x .number)) z refl
 
 -- What the number of an answer tells, for plans A of either kind.
 module _ {A : Type 0} (number : A → ℕ) (refusal : Refusal → A) (told : (r : Refusal) → number (refusal r) ≡ r .number) (i : List ℕ) (call : Region → A) where

@@ -13,8 +13,7 @@ use Rattle.terms.specs.Terms.{bytesOf, refusedBy}
 use Rattle.terms.specs.declared.Region.{Region}
 use Rattle.master.specs.Master.{master}
 use Rattle.master.specs.declared.Master.the-variants.{Read}
-use Rattle.edit.specs.Edit.{offsetFor, spanBytes, putIn, instead, without}
-use Rattle.edit.proofs.Exactly.{Free}
+use Rattle.edit.specs.Edit.{offsetFor, spanBytes, putIn, instead, without, Free}
 use Rattle.editor.specs.declared.Edited.the-variants.{Done}
 use Rattle.region.specs.declared.Found.the-variants.{At, Refused}
 use Rattle.cbfs.specs.Cbfs.{findOf, contentFoundBy, strictCheck, removed}

@@ -8,12 +8,20 @@ use lib.Dec.{leb, ltb}
 use Rattle.number.specs.Lists.{any, keep}
 use Rattle.walk.specs.Walk.{Entry, end, guardedListing}
 use Rattle.walk.specs.Lookup.{bears}
+use Rattle.master.specs.Master.{master}
+use Rattle.master.specs.declared.Master.the-variants.{Read}
+use Rattle.strict.specs.Strict.{Accepted}
 use Rattle.strict.specs.Slots.{hit}
 use Rattle.terms.specs.Terms.{bytesOf, refusedBy}
 use Rattle.terms.specs.declared.Region.{Region}
 use Rattle.region.specs.Region.{takenAt, Walked}
 use Rattle.region.specs.declared.Found.the-variants.{Refused}
 use Rattle.cbfs.specs.Cbfs.{guardedStep, guardedFind, guardedContent}
+
+-- "Take any image that the strict check accepts": its region, and that the check accepts it.
+pub record AcceptedImage (i : List ℕ) (g : Region) : Type 0 where
+  pub read : master i ≡ Read g
+  pub acc : Accepted (bytesOf i g) (g .align)
 
 -- A component with its place told from the image's start.
 abbrev pub placed : Region → Entry → Entry

@@ -17,7 +17,7 @@ use Rattle.walk.proofs.Places.{Place, any-false}
 use Rattle.walk.proofs.Members.{lookup-member}
 use Rattle.strict.specs.Strict.{Accepted, verdict}
 use Rattle.strict.proofs.Accepting.{walks-agree}
-use Rattle.edit.specs.Edit.{Run, holds, runs, Slot, slotOf, freeRuns, lowest, buries, spanBytes, Decision, refuse, afterCheck, adding, renewing, clearing, refusal, done, carriedOut, add, replace, remove, putIn, without}
+use Rattle.edit.specs.Edit.{Free, Run, holds, runs, Slot, slotOf, freeRuns, lowest, buries, spanBytes, Decision, refuse, afterCheck, adding, renewing, clearing, refusal, done, carriedOut, add, replace, remove, putIn, without}
 use Rattle.edit.proofs.Written.{length-span}
 use Rattle.edit.proofs.Lists.{keep-all, keep-put}
 use Rattle.edit.proofs.Runs.{row, Gap, mem-runs, runs-all, HeldAt, lowest-none, lowest-some}
@@ -155,10 +155,6 @@ module _ (r : List ℕ) (a : ℕ) (name : List ℕ) (kind : ℕ) (put : List ℕ
       go (hidden o b v) = absurd (true≢false (sym b ∙ ok .clean))
       go (nowhere o n v) = absurd (lowest-none (length s₁) (freeRuns r a) n q h)
       go (placed x o n v) = (x .from, is-done r _ x s₁ (check-accepted r a (adding 256 r a name s₁ L) acc ∙ v))
-
--- n bytes from q on lie in the region and in no component's span.
-abbrev pub Free : List ℕ → ℕ → ℕ → ℕ → Type 0
-Free r a q n = (q + n ≤ length r) × ((d : Entry) → List·Memᴰ d (plainListing r a) → (end d ≤ q) ⊎ (q + n ≤ d .place))
 
 -- A free run holds n bytes from a place on exactly if these are free, in a region of less than 2^32 bytes: freed runs are among the free ones.
 module _ (r : List ℕ) (a : ℕ) (pos : 0 < a) (small : length r ≤ 0xFFFFFFFF) (acc : Accepted r a) where

@@ -8,7 +8,7 @@ use mathlib.Core.List.{List, [], _∷_, List·Memᴰ, List·Memᴰ·head, List·
 use mathlib.Core.Logic.{_↔_}
 use mathlib.Core.Bool.{Bool, true, false, cond, _||_, true≢false}
 use mathlib.Core.Option.{some, none, Option·some-ne-none, Option·none-ne-some}
-use lib.ListN.{length, getD, drop}
+use lib.ListN.{length, drop}
 use lib.Seq.{getD-drop}
 use Rattle.number.specs.Number.{be}
 use Rattle.component.specs.Names.{nameFits}
@@ -24,15 +24,11 @@ use Rattle.walk.proofs.Bearers.{bears-name}
 use Rattle.strict.specs.Strict.{Accepted, refused, verdict}
 use Rattle.strict.specs.Slots.{start}
 use Rattle.strict.proofs.Keeping.{any-true}
-use Rattle.edit.specs.Edit.{Run, holds, Slot, slotOf, freeRuns, lowest, buries, spanBytes, filled, write, afterCheck, adding, renewing, clearing, refusal, done, carriedOut, add, replace, remove}
+use Rattle.edit.specs.Edit.{Bytes, Run, holds, Slot, slotOf, freeRuns, lowest, buries, spanBytes, filled, write, afterCheck, adding, renewing, clearing, refusal, done, carriedOut, add, replace, remove}
 use Rattle.edit.proofs.Written.{Fit, name-fit, length-span}
 use Rattle.edit.proofs.Runs.{holds-true}
 use Rattle.edit.proofs.Decisions.{not-write, same-write, is-refused, refused-same, does, check-accepted, check-refused, check-write, Addable, AddCase, unfit, used, full, hidden, nowhere, placed, add-case, RenewCase, unborne, burying, long, fitting, renew-case, ClearCase, missing, clears, clear-case}
 use Rattle.edit.proofs.Outcomes.{Added, Replaced, Removed, added, replaced, removed, at}
-
--- The region's numbers are bytes.
-abbrev pub Bytes : List ℕ → Type 0
-Bytes r = (i : ℕ) → getD r i 0 < 256
 
 be-below : (w : ℕ) (s : List ℕ) (i : ℕ) → Bytes s → be w s i < 256 ^ w
 unfolding be

@@ -1,17 +1,18 @@
 -- The edits of a region's bytes r at the alignment a (document 01, "Edits", refusals 10 to 17): what each answers, and the bytes afterwards.
 -- Places are told from the region's start.
-use Prim.Native.Nat.{ℕ, _+_, _*_, _-_, _/_}
-use mathlib.Core.List.{List, [], _∷_, _++_}
+use Prim.Native.Nat.{ℕ, _+_, _*_, _-_, _/_, _≤_, _<_}
+use mathlib.Core.Logic.{_⊎_}
+use mathlib.Core.List.{List, [], _∷_, _++_, List·Memᴰ}
 use mathlib.Core.Bool.{Bool, cond, not, _&&_}
 use mathlib.Core.Option.{Option, some, none}
-use lib.ListN.{length, replicate}
+use lib.ListN.{length, getD, replicate}
 use lib.Dec.{ltb, leb, eqb}
 use Rattle.number.specs.Number.{beBytes}
 use Rattle.number.specs.Bytes.{splice}
 use Rattle.component.specs.Component.{magic}
 use Rattle.component.specs.Names.{nameFits}
 use Rattle.number.specs.Lists.{any, keep}
-use Rattle.walk.specs.Walk.{Entry, buried, next, plainListing}
+use Rattle.walk.specs.Walk.{Entry, end, buried, next, plainListing}
 use Rattle.walk.specs.Lookup.{bears}
 use Rattle.terms.specs.Refusals.{Test, test}
 use Rattle.strict.specs.Strict.{Verdict, refused, accepted, verdict}
@@ -166,3 +167,11 @@ instead t (u ∷ us) = cond (eqb (u .place) (t .place)) t u ∷ instead t us
 
 abbrev pub without : ℕ → List Entry → List Entry
 without p l = keep (λ u. not (eqb (u .place) p)) l
+
+-- For what is promised: n bytes from q on lie in the region and in no component's span; and the numbers of s are bytes.
+
+abbrev pub Free : List ℕ → ℕ → ℕ → ℕ → Type 0
+Free r a q n = (q + n ≤ length r) × ((d : Entry) → List·Memᴰ d (plainListing r a) → (end d ≤ q) ⊎ (q + n ≤ d .place))
+
+abbrev pub Bytes : List ℕ → Type 0
+Bytes s = (i : ℕ) → getD s i 0 < 256

@@ -12,7 +12,7 @@ use Rattle.terms.specs.declared.Region.{Region}
 use Rattle.terms.specs.declared.Refusal.{Refusal}
 use Rattle.terms.proofs.Regions.{bytes-inside, bytes-fit}
 use Rattle.strict.specs.Strict.{limit}
-use Rattle.edit.specs.Edit.{Run, filled, Decision, refuse, write, toAdd, toReplace, toRemove, Reply, refusal, done, Outcome, carriedOut, add, replace, remove}
+use Rattle.edit.specs.Edit.{Bytes, Run, filled, Decision, refuse, write, toAdd, toReplace, toRemove, Reply, refusal, done, Outcome, carriedOut, add, replace, remove}
 use Rattle.room.specs.Room.{run}
 use Rattle.editor.specs.Code.{kindOf}
 use Rattle.editor.specs.Image.{answerOf, inImage, addIn, replaceIn, removeIn}
@@ -20,7 +20,7 @@ use Rattle.edit.proofs.Written.{length-span, filled-length, filled-before, fill
 use Rattle.editor.proofs.Choosing.{add-ready, replace-ready, remove-ready}
 use Rattle.editor.specs.declared.Edited.the-variants.{Done, Refused}
 use Rattle.edit.proofs.Outcomes.{Replaced, Removed}
-use Rattle.edit.proofs.Theorems.{Bytes, replace-done, remove-done}
+use Rattle.edit.proofs.Theorems.{replace-done, remove-done}
 use Rattle.editor.proofs.Writing.{region-same, splice-nothing}
 
 -- The image i′ is i with y for its region's bytes.

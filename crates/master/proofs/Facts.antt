@@ -1,18 +1,19 @@
--- What an image that is not refused by 1 to 8 is known to have.
+-- What the master header tells: what a refusal is, and what an image that is not refused by 1 to 8 is known to have.
 use Prim.Native.Nat.{ℕ, _+_, _-_, _^_, _%_, _≤_}
 use native.Mathlib.Omega.{arith}
-use mathlib.Core.Path.{_≡_, refl, subst}
+use mathlib.Core.Path.{_≡_, refl, ap, subst, _∙_}
 use mathlib.Core.Bool.{Bool, true, false, cond}
 use mathlib.Core.List.{List, [], _∷_}
 use lib.ListN.{length, getD}
 use lib.Dec.{leb, eqb}
 use lib.Count.{ones}
-use borrow.Author.Tests.{leb-true, eqb-true}
+use borrow.Author.Tests.{leb-true, eqb-true, eqb-false}
 use Rattle.terms.specs.Terms.{refusedBy}
 use Rattle.number.proofs.Digits.{be-same, le-same}
 use Rattle.number.proofs.Passing.{passes}
 use Rattle.terms.specs.Refusals.{test, lengthFits}
 use Rattle.terms.proofs.Orders.{all-passed}
+use Rattle.terms.specs.declared.Refusal.{Refusal}
 use Rattle.terms.specs.declared.Region.{Region}
 use Rattle.master.specs.Master.{address, field, romsize, bootblocksize, align, offset, headerAt, addressFits, bootblockFits, alignFits, offsetFits, tests, refusal, regionOf, master}
 use Rattle.master.specs.declared.Master.the-variants.{Read, Refused}
@@ -26,6 +27,24 @@ read-some i g e = go (eqb (refusal i) 0) refl e
     go : (b : Bool) → eqb (refusal i) 0 ≡ b → cond b (Read (regionOf i)) (Refused (refusedBy (refusal i))) ≡ Read g → (refusal i ≡ 0) × (regionOf i ≡ g)
     go true q e′ = (eqb-true _ _ q, (cc))
     go false q e′ = let z : _≡_ {A = ℕ} 0 1 = cc in absurd (omega arith)
+
+-- A refusal has a number that is not 0, and tells place 0.
+
+pub refused-number : (i : List ℕ) (r : Refusal) → master i ≡ Refused r → r .number ≡ 0 → ⊥
+unfolding master
+refused-number i r e z = go (eqb (refusal i) 0) refl e
+  where
+    go : (b : Bool) → eqb (refusal i) 0 ≡ b → cond b (Read (regionOf i)) (Refused (refusedBy (refusal i))) ≡ Refused r → ⊥
+    go true q f = let y : _≡_ {A = ℕ} 0 1 = cc in omega arith
+    go false q f = let s : refusedBy (refusal i) ≡ r = cc in eqb-false _ _ q (ap (λ (x : Refusal). x .number) s ∙ z)
+
+pub refused-place : (i : List ℕ) (r : Refusal) → master i ≡ Refused r → r ≡ refusedBy (r .number)
+unfolding master
+refused-place i r e = go (eqb (refusal i) 0) e
+  where
+    go : (b : Bool) → cond b (Read (regionOf i)) (Refused (refusedBy (refusal i))) ≡ Refused r → r ≡ refusedBy (r .number)
+    go true f = let z : _≡_ {A = ℕ} 0 1 = cc in absurd (omega arith)
+    go false f = let z : refusedBy (refusal i) ≡ r = cc in subst (λ (x : Refusal). x ≡ refusedBy (x .number)) z refl
 
 -- The region of an image that is read.
 pub record Known (i : List ℕ) (g : Region) : Type 0 where
