@@ -20,6 +20,7 @@ use Rattle.master.proofs.Facts.{Known, known, align-power}
 use Rattle.region.specs.Region.{stepIn, stepFits, takenAt, foundAt, Walked}
 use Rattle.region.specs.declared.Found.the-variants.{At}
 use Rattle.region.specs.declared.Found.the-variants.{Refused as FoundRefused}
+use Rattle.region.proofs.Numbers as Numbers
 use Rattle.region.proofs.Listing as Listing
 use Rattle.cbfs.specs.Cbfs.{stepOn, stepOf, plainStep, guardedStep, plainFind, plainContent}
 
@@ -63,7 +64,7 @@ module _ (i : List ℕ) (g : Region) (read : master i ≡ Read g) where
 
   -- Places, counted from the region's start, are document 01's multiples of align in the region.
   pub places-are-multiples : (p : ℕ) → p < g .end → (stepFits g p ≡ true) ↔ ((g .start ≤ p) × (p % g .align ≡ 0))
-  places-are-multiples p h = Listing.places-are-multiples g p (facts .whole) h
+  places-are-multiples p h = Numbers.places-are-multiples g p (facts .whole) h
 
   -- align is a power of two, and the rounding to places is to its first multiple at or after a number.
   pub rounds-to-places : (k : ℕ) × (g .align ≡ 2 ^ k) × ((n : ℕ) → Rounded (g .align) n (placesBelow (g .align) n * g .align))

@@ -89,7 +89,7 @@ module _ (r : List ℕ) (a : ℕ) (pos : 0 < a) where
       go : (x ≡ record { from = n; to = (length r) }) ⊎ List·Memᴰ x [] → Gap a (length r) n [] x
       go (inl q) = rw q (record { at = pl; from = omega arith; inside = omega arith; stop = inr (omega arith); sides = λ d k. absurd (List·Memᴰ·not-nil k) })
       go (inr k) = absurd (List·Memᴰ·not-nil k)
-  mem-runs n (t ∷ ts) pl w x m = go (List·Memᴰ·cases-cons m) (λ k. mem-runs (next r a t) ts (onward-stop (guarded r a) r a pos (end t)) (onwards r a n pos t ts w) x k)
+  mem-runs n (t ∷ ts) pl w x m = go (List·Memᴰ·cases-cons m) (λ k. mem-runs (next r a t) ts (onward-stop r a (end t)) (onwards r a n pos t ts w) x k)
     where
       now : (d : Entry) → (d ≡ t) ⊎ List·Memᴰ d ts → (end d ≤ n) ⊎ (t .place ≤ d .place)
       now d (inl q) = inr (rw q (omega arith))
@@ -167,7 +167,7 @@ module _ (r : List ℕ) (a : ℕ) (pos : 0 < a) where
       go true g′ (inl z) = omega (arith, ap (λ (w : Run). w .from) z, ap (λ (w : Run). w .from) (Option·some-injective _ _ g′))
       go true g′ (inr i) = absurd (List·Memᴰ·not-nil i)
   lowest-least n k (t ∷ ts) pl w x g q (few, y, m, u, v) = go (holds n (record { from = k; to = t .place })) refl g (List·Memᴰ·cases-cons m)
-      (λ g′ i. lowest-least n (next r a t) ts (onward-stop (guarded r a) r a pos (end t)) (onwards r a k pos t ts w) x g′ q (few, y, i, u, v))
+      (λ g′ i. lowest-least n (next r a t) ts (onward-stop r a (end t)) (onwards r a k pos t ts w) x g′ q (few, y, i, u, v))
     where
       low : k ≤ y .from
       low = mem-runs r a pos k (t ∷ ts) pl w y (unfold runs in m) .from

@@ -1,18 +1,17 @@
 -- A listing of a region is the steps over the image from the region's start to none left, for either walk: w tells the guarded one.
 use Prim.Native.Nat.{ℕ, zero, suc, _+_, _-_, _%_, _≤_, _<_}
-use native.Mathlib.Nat.{mul-mod-left, add-sub-cancel-left, add-mod, mod-mod, zero-add, add-zero}
+use native.Mathlib.Nat.{mul-mod-left, add-sub-cancel-left, add-zero}
 use native.Mathlib.Omega.{arith}
 use native.Mathlib.Decide.{decLt}
 use mathlib.Core.Path.{_≡_, refl, sym, ap, _∙_}
 use mathlib.Core.List.{List, map}
-use mathlib.Core.Logic.{_⊎_, inl, inr, _↔_}
+use mathlib.Core.Logic.{inl, inr}
 use mathlib.Core.Bool.{Bool, true}
 use mathlib.Core.Option.{Option, some, none}
 use lib.ListN.{length, drop, length-take, length-drop}
-use borrow.Author.Tests.{eq-eqb, eqb-true}
+use borrow.Author.Tests.{eq-eqb}
 use Rattle.walk.specs.Walk.{Entry, pickOf, step, next, listingFrom, listing, end}
-use Rattle.walk.proofs.Places.{Place}
-use Rattle.walk.proofs.Steps.{rest-none, rest-some, onward-stop}
+use Rattle.walk.proofs.Steps.{Stop, rest-none, rest-some, onward-stop}
 use Rattle.walk.proofs.Stepping.{pick-fits}
 use Rattle.walk.proofs.Lookups.{stands}
 use Rattle.walk.proofs.Members.{next-within}
@@ -20,27 +19,14 @@ use Rattle.terms.specs.Terms.{bytesOf}
 use Rattle.terms.specs.declared.Region.{Region}
 use Rattle.terms.proofs.Regions.{bytes-fit}
 use Rattle.region.specs.Region.{stepFits, takenAt, stepped, stepBy, Walked, ended, went}
-use Rattle.region.proofs.Numbers.{fit-end, fit-place, fit-from}
-
--- Places counted from a start that is a multiple of the alignment are the multiples of the alignment.
-pub same-places : (a s p : ℕ) → s % a ≡ 0 → s ≤ p → (p - s) % a ≡ p % a
-same-places a s p z h = go (p - s) (omega arith)
-  where
-    go : (d : ℕ) → p ≡ s + d → d % a ≡ p % a
-    go d e = rw (e, add-mod s d a, z, zero-add, mod-mod d a)
-
-pub places-are-multiples : (g : Region) (p : ℕ) → g .start % g .align ≡ 0 → p < g .end → (stepFits g p ≡ true) ↔ ((g .start ≤ p) × (p % g .align ≡ 0))
-places-are-multiples g p z l = (
-  λ e. let f = fit-from g p e in (f .0, sym (same-places (g .align) (g .start) p z (f .0)) ∙ eqb-true _ _ (fit-place g p (f .0) (f .1) (λ q. omega arith) ∙ e)),
-  λ h. sym (fit-place g p (h .0) (omega arith) (λ q. omega arith)) ∙ eq-eqb _ _ (same-places (g .align) (g .start) p z (h .0) ∙ h .1),
-)
+use Rattle.region.proofs.Numbers.{fit-end, fit-place}
 
 module _ (w : Bool) (i : List ℕ) (g : Region) (pos : 0 < g .align) (forward : g .start ≤ g .end) (inside : g .end ≤ length i) where
   long : g .start + length (bytesOf i g) ≡ g .end
   long = omega (arith, ap length (bytes-fit i g forward inside), length-take (g .end - g .start) (drop (g .start) i), length-drop (g .start) i)
 
   -- Every number that a step gives is one to step from.
-  fit-number : (n : ℕ) → n ≤ length (bytesOf i g) → Place (g .align) n ⊎ (length (bytesOf i g) ≤ n) → stepFits g (g .start + n) ≡ true
+  fit-number : (n : ℕ) → n ≤ length (bytesOf i g) → Stop (bytesOf i g) (g .align) n → stepFits g (g .start + n) ≡ true
   fit-number n h (inr k) = sym (fit-end g (g .start + n) (omega arith) (omega (arith, long)))
   fit-number n h (inl (k, e)) = go (decLt (g .start + n) (g .end))
     where
@@ -55,7 +41,7 @@ module _ (w : Bool) (i : List ℕ) (g : Region) (pos : 0 < g .align) (forward : 
 
   -- What is to be shown of the steps from n on, n counted from the region's start.
   abbrev From : ℕ → Type 0
-  From n = n ≤ length (bytesOf i g) → Place (g .align) n ⊎ (length (bytesOf i g) ≤ n)
+  From n = n ≤ length (bytesOf i g) → Stop (bytesOf i g) (g .align) n
       → Walked (stepBy (pickOf w (bytesOf i g) (g .align)) i g) (g .start + n) (map (takenAt i g) (listingFrom (pickOf w (bytesOf i g) (g .align)) (bytesOf i g) (g .align) n))
 
   walked-one : (n : ℕ) → ((m : ℕ) → n < m → From m) → From n
@@ -68,7 +54,7 @@ module _ (w : Bool) (i : List ℕ) (g : Region) (pos : 0 < g .align) (forward : 
           let k = stands w (bytesOf i g) (g .align) n t e in
           rw (rest-some (pickOf w (bytesOf i g) (g .align)) (bytesOf i g) (g .align) pos (pick-fits w (bytesOf i g) (g .align) pos) n t e)
           (went (step-there n (fit-number n l s) ∙ ap (stepped i g) e)
-          (ih (next (bytesOf i g) (g .align) t) (k .later) (next-within (bytesOf i g) (g .align) t) (onward-stop (pickOf w (bytesOf i g) (g .align)) (bytesOf i g) (g .align) pos (end t))))
+          (ih (next (bytesOf i g) (g .align) t) (k .later) (next-within (bytesOf i g) (g .align) t) (onward-stop (bytesOf i g) (g .align) (end t))))
 
   walked-from : (d n : ℕ) → length (bytesOf i g) < n + d → From n
   walked-from zero n h = λ l s. absurd (omega arith)

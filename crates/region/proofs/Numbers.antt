@@ -1,8 +1,9 @@
 -- Laws of the numbers to step from.
-use Prim.Native.Nat.{ℕ, _-_, _%_, _≤_, _<_}
-use native.Mathlib.Nat.{mod-zero}
+use Prim.Native.Nat.{ℕ, _+_, _-_, _%_, _≤_, _<_}
+use native.Mathlib.Nat.{mod-zero, add-mod, mod-mod, zero-add}
 use native.Mathlib.Omega.{arith}
 use mathlib.Core.Path.{_≡_, refl, sym, _∙_}
+use mathlib.Core.Logic.{_↔_}
 use mathlib.Core.Bool.{Bool, true, false, _||_}
 use mathlib.Core.List.{List, [], _∷_}
 use lib.Dec.{leb, eqb}
@@ -47,3 +48,16 @@ module _ (g : Region) (n : ℕ) where
   pub fit-from : stepFits g n ≡ true → (g .start ≤ n) × (n ≤ g .end)
   unfolding stepFits
   fit-from e = (leb-true _ _ (passes 0 (tests g n) e), leb-true _ _ (passes 1 (tests g n) e))
+
+-- Places counted from a start that is a multiple of the alignment are the multiples of the alignment.
+pub same-places : (a s p : ℕ) → s % a ≡ 0 → s ≤ p → (p - s) % a ≡ p % a
+same-places a s p z h = go (p - s) (omega arith)
+  where
+    go : (d : ℕ) → p ≡ s + d → d % a ≡ p % a
+    go d e = rw (e, add-mod s d a, z, zero-add, mod-mod d a)
+
+pub places-are-multiples : (g : Region) (p : ℕ) → g .start % g .align ≡ 0 → p < g .end → (stepFits g p ≡ true) ↔ ((g .start ≤ p) × (p % g .align ≡ 0))
+places-are-multiples g p z l = (
+  λ e. let f = fit-from g p e in (f .0, sym (same-places (g .align) (g .start) p z (f .0)) ∙ eqb-true _ _ (fit-place g p (f .0) (f .1) (λ q. omega arith) ∙ e)),
+  λ h. sym (fit-place g p (h .0) (omega arith) (λ q. omega arith)) ∙ eq-eqb _ _ (same-places (g .align) (g .start) p z (h .0) ∙ h .1),
+)

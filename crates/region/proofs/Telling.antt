@@ -22,10 +22,8 @@ use Rattle.terms.specs.declared.Refusal.{Refusal}
 use Rattle.terms.proofs.Regions.{bytes-inside}
 use Rattle.region.specs.Region.{stepFits, stepped, stepBy, foundAt, contentFound}
 use Rattle.region.specs.declared.Step.{Step}
-use Rattle.region.specs.declared.Step.the-variants.{Took, NoneLeft}
-use Rattle.region.specs.declared.Step.the-variants.{Refused as StepRefused}
-use Rattle.region.specs.declared.Found.the-variants.{At}
-use Rattle.region.specs.declared.Found.the-variants.{Refused as FoundRefused}
+use Rattle.region.specs.declared.Step.the-variants.{Took, NoneLeft, Refused as StepRefused}
+use Rattle.region.specs.declared.Found.the-variants.{At, Refused as FoundRefused}
 
 -- t with its numbers told from s.
 abbrev pub shifted : ℕ → Taken → Taken

@@ -15,11 +15,9 @@ use Rattle.walk.specs.declared.Taken.{Taken}
 use Rattle.terms.specs.Terms.{bytesOf, refusedBy}
 use Rattle.terms.specs.declared.Region.{Region}
 use Rattle.region.specs.declared.Step.{Step}
-use Rattle.region.specs.declared.Step.the-variants.{Took, NoneLeft}
-use Rattle.region.specs.declared.Step.the-variants.{Refused as StepRefused}
+use Rattle.region.specs.declared.Step.the-variants.{Took, NoneLeft, Refused as StepRefused}
 use Rattle.region.specs.declared.Found.{Found}
-use Rattle.region.specs.declared.Found.the-variants.{At}
-use Rattle.region.specs.declared.Found.the-variants.{Refused as FoundRefused}
+use Rattle.region.specs.declared.Found.the-variants.{At, Refused as FoundRefused}
 
 -- A number to step from: not below the region's start nor past its end, and at that end or a place.
 -- Places are multiples of align counted from the start.

@@ -92,17 +92,7 @@ fn content_of(bytes: &[u8], t: Taken) -> &[u8]
     number::part(number::rest(bytes, t.place), h.offset, h.len)
 }
 
-// The bytes from a place up to the region's end, as a part of the image; empty where the number is no place of the region.
-fn from_place(image: &[u8], region: Region, place: usize) -> &[u8]
-    ensures { λ r. ⌜ now r ≡ fromPlace (now (image .entry)) region place ⌝ }
-{
-    if !step_fits(region, place) {
-        return &image[0..0];
-    }
-    number::rest(terms::bytes(image, region), place - region.start)
-}
-
-// The content of that bearer, as a part of the image; empty on a refusal.
+// The content of the component that `find_in` gives, as a part of the image; empty on a refusal.
 pub fn lookup_in<'a, 'b>(guarded: bool, image: &'a [u8], region: Region, name: &'b [u8]) -> &'a [u8]
     ensures { λ r. ⌜ now r ≡ contentIn guarded (now (image .entry)) region (now (name .entry)) ⌝ }
     ensures kept { λ _. ⌜ (now (image .exit) ≡ now (image .entry)) × (now (name .exit) ≡ now (name .entry)) ⌝ }
@@ -113,6 +103,16 @@ pub fn lookup_in<'a, 'b>(guarded: bool, image: &'a [u8], region: Region, name: &
         walk::Found::At(t) => content_of(bytes, t),
         walk::Found::Refused(_) => &image[0..0],
     }
+}
+
+// The bytes from a place up to the region's end, as a part of the image; empty where the number is no place of the region.
+fn from_place(image: &[u8], region: Region, place: usize) -> &[u8]
+    ensures { λ r. ⌜ now r ≡ fromPlace (now (image .entry)) region place ⌝ }
+{
+    if !step_fits(region, place) {
+        return &image[0..0];
+    }
+    number::rest(terms::bytes(image, region), place - region.start)
 }
 
 // The name of the component at a place, as a part of the image; empty where none stands there.

@@ -1,7 +1,6 @@
 -- Acceptance by single places, and what follows: the two walks agree (document 01, "Components and the two walks"), and spoiled slots
 -- cost nothing but themselves (the order, demand 3).
-use Prim.Native.Nat.{ℕ, _-_, _≤_, _<_}
-use native.Mathlib.Nat.{sub-zero}
+use Prim.Native.Nat.{ℕ, _≤_, _<_}
 use native.Mathlib.Omega.{arith}
 use native.Mathlib.Decide.{decLt}
 use mathlib.Core.Path.{_≡_, refl, sym, ap, _∙_}
@@ -14,16 +13,16 @@ use lib.Dec.{eqb}
 use borrow.Author.Tests.{eqb-true, eq-eqb, not-false}
 use Rattle.component.specs.Component.{span}
 use Rattle.number.specs.Lists.{keep}
-use Rattle.walk.specs.Walk.{Entry, end, placesBelow, places, carries, plain, guarded, plainListing, guardedListing, allFrom}
+use Rattle.walk.specs.Walk.{Entry, end, allPlaces, carries, plain, guarded, plainListing, guardedListing}
 use Rattle.walk.specs.Lookup.{only, bears, plainLookup, guardedLookup}
-use Rattle.walk.proofs.Places.{Place, mem-places}
+use Rattle.walk.proofs.Places.{Place}
 use Rattle.walk.proofs.Steps.{Exclusive, listing-all, mem-listing, listing-apart, rest-none}
-use Rattle.walk.proofs.Stepping.{pick-fits, step-none}
-use Rattle.walk.proofs.Picks.{plain-none, carries-fits, buried-of, guarded-plain, guarded-of, guarded-none, guarded-exclusive, guarded-listing}
-use Rattle.strict.specs.Strict.{takes, stray, strays, toldApart, Accepted}
+use Rattle.walk.proofs.Stepping.{pick-fits, step-no-places}
+use Rattle.walk.proofs.Picks.{plain-none, carries-fits, buried-of, guarded-plain, guarded-of, guarded-none, guarded-exclusive, guarded-context-free}
+use Rattle.strict.specs.Strict.{limit, takes, stray, strays, toldApart, Accepted}
 use Rattle.strict.specs.Slots.{hit, spoiled, Spoilt, Kept}
 use Rattle.strict.proofs.Keeping.{any-true, mem-any, keep-empty, keep-none, keep-comm}
-use Rattle.strict.proofs.Picked.{place-listed, picked-same}
+use Rattle.strict.proofs.Picked.{listed-place, place-listed, picked-same}
 use Rattle.strict.proofs.Bearing.{only-one, lone, first-only}
 use Rattle.strict.proofs.Frames.{Sound, Frame, guarded-mem, same-rest, same-listed}
 use Rattle.strict.proofs.Slots.{slot-frame, spoiled-inside}
@@ -37,9 +36,6 @@ unfolding takes
 takes-mem l p e = let (t, m, q) = any-true (λ t. eqb (t .place) p) l e in (t, m, eqb-true (t .place) p q)
 
 module _ (r : List ℕ) (a : ℕ) (pos : 0 < a) where
-  at-place : (p : ℕ) → List·Memᴰ p (places a (placesBelow a (length r - 0)) 0) → Place a p
-  at-place p m = let (i, lt, e) = mem-places a (placesBelow a (length r - 0)) 0 p m in (i, omega arith)
-
   -- Where every magic is a component's that the guarded walk may take, both walks agree.
   module _ (sound : Sound r a) where
     plain-guarded : (p : ℕ) → Place a p → plain r p ≡ guarded r a p
@@ -53,15 +49,14 @@ module _ (r : List ℕ) (a : ℕ) (pos : 0 < a) where
     plain-exclusive p h pl e q ql lt lt′ = plain-guarded q ql ∙ guarded-exclusive r a pos p h pl (sym (plain-guarded p pl) ∙ e) q ql lt lt′
 
     pub sound-agree : plainListing r a ≡ guardedListing r a
-    unfolding allFrom
     sound-agree = listing-all (plain r) r a pos (pick-fits false r a pos) plain-exclusive
-        ∙ picked-same (guarded r a) (plain r) (places a (placesBelow a (length r - 0)) 0) (λ p m. plain-guarded p (at-place p m))
-        ∙ sym (guarded-listing r a pos)
+        ∙ picked-same (guarded r a) (plain r) (allPlaces r a) (λ p m. plain-guarded p (listed-place r a pos p m .0))
+        ∙ sym (guarded-context-free r a pos)
 
     -- And the plain walk takes every place with the magic.
     pub sound-taken : strays r a ≡ []
     unfolding strays stray
-    sound-taken = keep-none (stray r (plainListing r a)) (places a (placesBelow a (length r)) 0) (λ p m. go p (at-place p (rw sub-zero m)) (carries r p) refl)
+    sound-taken = keep-none (stray r (plainListing r a)) (allPlaces r a) (λ p m. go p (listed-place r a pos p m .0) (carries r p) refl)
       where
         go : (p : ℕ) → Place a p → (b : Bool) → carries r p ≡ b → b && not (takes (plainListing r a) p) ≡ false
         go p pl false c = refl
@@ -73,8 +68,7 @@ module _ (r : List ℕ) (a : ℕ) (pos : 0 < a) where
     caught : (p : ℕ) → Place a p → carries r p ≡ true → (t : Entry) × List·Memᴰ t (plainListing r a) × (t .place ≡ p)
     unfolding strays stray
     caught p pl c = takes-mem (plainListing r a) p (not-false (takes (plainListing r a) p) (rw c at
-        (keep-empty (stray r (plainListing r a)) (places a (placesBelow a (length r)) 0) all-taken p
-        (rw sub-zero at (place-listed (plain r) r a pos p pl (omega (arith, carries-fits r p c)))))))
+        (keep-empty (stray r (plainListing r a)) (allPlaces r a) all-taken p (place-listed r a pos p pl (omega (arith, carries-fits r p c))))))
 
     -- What is listed hides no magic.
     clean : (t : Entry) → List·Memᴰ t (plainListing r a) → (q : ℕ) → Place a q → t .place < q → q < end t → carries r q ≡ false
@@ -106,10 +100,10 @@ walks-agree r a acc = go (decLt 0 a)
     go (yes pos) = sound-agree r a pos (taken-sound r a pos (acc .all-taken))
     go (no n) =
         let z : a ≡ 0 = omega arith in
-        rest-none (plain r) r a 0 (step-none (plain r) r a 0 z) ∙ sym (rest-none (guarded r a) r a 0 (step-none (guarded r a) r a 0 z))
+        rest-none (plain r) r a 0 (step-no-places (plain r) r a 0 z) ∙ sym (rest-none (guarded r a) r a 0 (step-no-places (guarded r a) r a 0 z))
 
 -- Acceptance by single places and the guarded listing.
-pub accepted-context-free : (r : List ℕ) (a : ℕ) → 0 < a → Accepted r a ↔ (Sound r a × (length (guardedListing r a) ≤ 256) × (toldApart (guardedListing r a) ≡ true))
+pub accepted-context-free : (r : List ℕ) (a : ℕ) → 0 < a → Accepted r a ↔ (Sound r a × (length (guardedListing r a) ≤ limit) × (toldApart (guardedListing r a) ≡ true))
 accepted-context-free r a pos = (
   λ acc. (taken-sound r a pos (acc .all-taken), rw (← walks-agree r a acc) (acc .few), rw (← walks-agree r a acc) (acc .told-apart)),
   λ h. record { all-taken = sound-taken r a pos (h .0); few = rw (sound-agree r a pos (h .0)) (h .1); told-apart = rw (sound-agree r a pos (h .0)) (h .2) },

@@ -15,12 +15,14 @@ use Rattle.strict.specs.Directory.{refusal, directory, Passed, apartAt}
 use Rattle.strict.specs.declared.Directory.{Directory}
 use Rattle.strict.specs.declared.Pass.{Pass}
 use Rattle.strict.proofs.Verdicts.{refused-13, refused-11, accepted-exactly}
-use Rattle.strict.proofs.Directories.{fill-padded, apart-told, told-padded}
+use Rattle.strict.proofs.Names.{apart-told}
+use Rattle.strict.proofs.Directories.{fill-padded, told-padded}
 
-small : (m : ℕ) (l : List Entry) → ((e : Entry) → List·Memᴰ e l → e .place < m) → (k : ℕ) → k < length l → getD (placesOf l) k 0 < m
-small m [] h k q = absurd (omega arith)
-small m (e ∷ l) h zero q = h e (List·Memᴰ·head refl)
-small m (e ∷ l) h (suc k) q = small m l (λ x t. h x (List·Memᴰ·tail t)) k (le-of-suc-le-suc q)
+-- Where every component of a listing stands below m, so do the places one by one.
+place-below : (m : ℕ) (l : List Entry) → ((e : Entry) → List·Memᴰ e l → e .place < m) → (k : ℕ) → k < length l → getD (placesOf l) k 0 < m
+place-below m [] h k q = absurd (omega arith)
+place-below m (e ∷ l) h zero q = h e (List·Memᴰ·head refl)
+place-below m (e ∷ l) h (suc k) q = place-below m l (λ x t. h x (List·Memᴰ·tail t)) k (le-of-suc-le-suc q)
 
 module _ (r : List ℕ) (a s : ℕ) (p : Pass) (says : Passed r a p) where
   pub answer-astray : (d : Directory) → p .astray ≡ true → d ≡ refusal 12 (s + p .place) → d ≡ directory s (verdict limit r a)
@@ -59,7 +61,7 @@ module _ (r : List ℕ) (a s : ℕ) (p : Pass) (says : Passed r a p) where
           let l : k < length (placesOf (plainListing r a)) = omega (arith, counted) in
           let n : k < length (plainListing r a) = omega (arith, h, says .clean clear .1) in
           let g : getD (p .places) k 0 ≡ getD (placesOf (plainListing r a)) k 0 = ap (λ (x : List ℕ). getD x k 0) places-are ∙ padded-nth limit 0 (placesOf (plainListing r a)) k l in
-          omega (arith, g, small (length r) (plainListing r a) (λ e m. given false r a e m .inside) k n)
+          omega (arith, g, place-below (length r) (plainListing r a) (λ e m. given false r a e m .inside) k n)
 
       pub answer-accepted : (t : List ℕ) → toldApart (plainListing r a) ≡ true → t ≡ map (λ q. s + q) (take (p .count) (p .places)) ++ drop (p .count) (p .places)
           → _≡_ {A = Directory} (record { number = 0; place = 0; count = p .count; places = t }) (directory s (verdict limit r a))

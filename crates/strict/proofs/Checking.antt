@@ -4,17 +4,17 @@ use native.Mathlib.Omega.{arith}
 use native.Mathlib.Decide.{decLt}
 use mathlib.Core.Path.{_≡_, refl, sym, ap, _∙_}
 use mathlib.Core.List.{List, [], _∷_, _++_, append-nil, append-assoc}
-use mathlib.Core.Logic.{_⊎_, inl, inr}
+use mathlib.Core.Logic.{inl, inr}
 use mathlib.Core.Bool.{true}
 use mathlib.Core.Option.{some, none, Option·some-injective, Option·none-ne-some, Option·some-ne-none}
 use lib.ListN.{length, drop, length-append}
 use Rattle.component.specs.Component.{Component, span, judge}
-use Rattle.walk.specs.Walk.{Entry, carries, nextMagic, plain, onward, plainListing}
+use Rattle.walk.specs.Walk.{Entry, carries, nextMagic, onward, plainListing}
 use Rattle.walk.proofs.Places.{Place}
 use Rattle.walk.proofs.Hunting.{next-none, next-end, next-carries, next-above}
-use Rattle.walk.proofs.Steps.{onward-stop}
+use Rattle.walk.proofs.Steps.{Stop, onward-stop}
 use Rattle.strict.specs.Strict.{strays, straysFrom, lowest, firstStray, refused, decide, verdict}
-use Rattle.strict.proofs.Strays.{plainFrom, strays-from, list-hunt, list-end, from-end, next-place, list-well, onward-past, first-hunt, first-ill, first-open, first-buried}
+use Rattle.strict.proofs.Strays.{plainFrom, strays-from, list-hunt, list-end, from-end, next-place, list-well, onward-behind, first-hunt, first-ill, first-open, first-buried}
 
 -- The lowest of the strays decides.
 
@@ -42,11 +42,11 @@ pub record Checked (r : List ℕ) (a : ℕ) (done : List Entry) (p : ℕ) : Type
   pub counted : length done ≤ p
 
 -- The hunt from a number to step from.
-hunted-place : (r : List ℕ) (a n : ℕ) → Place a n ⊎ (length r ≤ n) → nextMagic r a n (length r) < length r
+hunted-place : (r : List ℕ) (a n : ℕ) → Stop r a n → nextMagic r a n (length r) < length r
     → (0 < a) × Place a (nextMagic r a n (length r)) × (carries r (nextMagic r a n (length r)) ≡ true)
 hunted-place r a n s l = go (decLt 0 a) s
   where
-    go : Dec (0 < a) → Place a n ⊎ (length r ≤ n) → (0 < a) × Place a (nextMagic r a n (length r)) × (carries r (nextMagic r a n (length r)) ≡ true)
+    go : Dec (0 < a) → Stop r a n → (0 < a) × Place a (nextMagic r a n (length r)) × (carries r (nextMagic r a n (length r)) ≡ true)
     go (yes pos) (inl pl) = (pos, next-place r a pos n (length r) pl l, next-carries r a pos n (length r) l)
     go (yes pos) (inr h) = absurd (omega (arith, l, next-end r a pos n (length r) h))
     go (no z) s′ = absurd (omega (arith, l, next-none r a n (length r) (omega arith)))
@@ -59,10 +59,6 @@ module _ (r : List ℕ) (a : ℕ) (done : List Entry) (p : ℕ) (inv : Checked r
   pub checked-end : length r ≤ p → (strays r a ≡ []) × (plainListing r a ≡ done)
   unfolding lowest
   checked-end h = (no-stray r a (inv .clean ∙ ap lowest (from-end r a p h)), inv .listed ∙ rw (list-end r a p h) (append-nil done))
-
-  pub end-verdict : (most : ℕ) → length r ≤ p → verdict most r a ≡ decide most [] done
-  unfolding verdict
-  end-verdict most h = let e = checked-end h in rw (e .0, e .1)
 
   module _ (inside : p < length r) where
     pos : 0 < a
@@ -78,8 +74,9 @@ module _ (r : List ℕ) (a : ℕ) (done : List Entry) (p : ℕ) (inv : Checked r
       checked-buried q h l most = stray-verdict most r a q
           (inv .clean ∙ first-buried r a pos p (inv .found inside .1) inside (inv .found inside .2) c well e ends (omega arith) ∙ ap some (sym h))
 
-      later : p < nextMagic r a (onward r a e) (length r)
-      later = next-above r a pos p (onward r a e) (length r) inside (onward-past r a pos p (inv .found inside .1) inside (inv .found inside .2) c well e ends .0)
+      -- The next magic lies behind p.
+      pub checked-later : p < nextMagic r a (onward r a e) (length r)
+      checked-later = next-above r a pos p (onward r a e) (length r) inside (onward-behind r a pos p (inv .found inside .1) inside (inv .found inside .2) c well e ends .0)
 
       -- Else the component is taken, and the check goes on.
       pub checked-on : e ≤ nextMagic r a (p + a) e → (q : ℕ) → q ≡ nextMagic r a (onward r a e) (length r) → Checked r a (done ++ (record { place = p; component = c } ∷ [])) q
@@ -88,6 +85,6 @@ module _ (r : List ℕ) (a : ℕ) (done : List Entry) (p : ℕ) (inv : Checked r
         listed = inv .listed
             ∙ ap (λ (l : List Entry). done ++ l) (list-well r a pos p (inv .found inside .1) inside (inv .found inside .2) c well e ends ∙ ap (λ (l : List Entry). record { place = p; component = c } ∷ l) (list-hunt r a (onward r a e)))
             ∙ sym (append-assoc done (record { place = p; component = c } ∷ []) (plainFrom r a (nextMagic r a (onward r a e) (length r))));
-        found = hunted-place r a (onward r a e) (onward-stop (plain r) r a pos e);
-        counted = simp length-append (omega (arith, inv .counted, later));
+        found = hunted-place r a (onward r a e) (onward-stop r a e);
+        counted = simp length-append (omega (arith, inv .counted, checked-later));
       })

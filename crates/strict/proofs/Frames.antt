@@ -1,5 +1,5 @@
 -- What stays of the guarded listing where bytes are put anew, as long as these fill whole cells between places and no span in part.
-use Prim.Native.Nat.{ℕ, suc, _+_, _*_, _-_, _≤_, _<_}
+use Prim.Native.Nat.{ℕ, suc, _+_, _≤_, _<_}
 use native.Mathlib.Nat.{lt-of-mul-lt-mul-right, mul-le-mul-right}
 use native.Mathlib.Omega.{arith}
 use mathlib.Core.Path.{_≡_, refl, sym, _∙_}
@@ -11,10 +11,10 @@ use borrow.Author.Tests.{not-true}
 use Rattle.component.specs.Component.{Component, span}
 use Rattle.component.proofs.Judging.{judge-local, window}
 use Rattle.number.specs.Lists.{keep}
-use Rattle.walk.specs.Walk.{Entry, placesBelow, places, carries, buried, plain, guarded, guardedListing, allFrom}
-use Rattle.walk.proofs.Places.{Place, mem-places}
-use Rattle.walk.proofs.Picks.{carries-local, buried-false, buried-of, guarded-plain, guarded-of, guarded-none, guarded-fits, guarded-listing}
-use Rattle.strict.proofs.Picked.{mem-all, all-mem, picked-keep}
+use Rattle.walk.specs.Walk.{Entry, allPlaces, carries, buried, plain, guarded, guardedListing}
+use Rattle.walk.proofs.Places.{Place}
+use Rattle.walk.proofs.Picks.{carries-local, buried-false, buried-of, guarded-plain, guarded-of, guarded-none, guarded-fits, guarded-context-free}
+use Rattle.strict.proofs.Picked.{mem-picked, picked-mem, listed-place, place-listed, picked-keep}
 
 -- Every magic at a place is a component's that the guarded walk may take.
 abbrev pub Sound : List ℕ → ℕ → Type 0
@@ -24,11 +24,14 @@ Sound r a = (p : ℕ) → Place a p → carries r p ≡ true → (c : Component)
 
 pub mem-guarded : (r : List ℕ) (a : ℕ) → 0 < a → (t : Entry) → List·Memᴰ t (guardedListing r a)
     → Place a (t .place) × (t .place < length r) × (guarded r a (t .place) ≡ some (t .component))
-mem-guarded r a pos t m = mem-all (guarded r a) r a pos t (rw (guarded-listing r a pos) at m)
+mem-guarded r a pos t m =
+    let f = mem-picked (guarded r a) (allPlaces r a) t (rw (guarded-context-free r a pos) at m) in
+    let q = listed-place r a pos (t .place) (f .0) in
+    (q .0, q .1, f .1)
 
 pub guarded-mem : (r : List ℕ) (a : ℕ) → 0 < a → (p : ℕ) (c : Component) → Place a p → guarded r a p ≡ some c
     → List·Memᴰ (record { place = p; component = c }) (guardedListing r a)
-guarded-mem r a pos p c pl e = rw (guarded-listing r a pos) (all-mem (guarded r a) r a pos p c pl (omega (arith, guarded-fits r a pos p c e)) e)
+guarded-mem r a pos p c pl e = rw (guarded-context-free r a pos) (picked-mem (guarded r a) (allPlaces r a) p c (place-listed r a pos p pl (omega (arith, guarded-fits r a pos p c e))) e)
 
 -- Two places are a apart.
 pub place-far : (a : ℕ) (p q : ℕ) → Place a p → Place a q → p < q → p + a ≤ q
@@ -79,13 +82,8 @@ module _ (r r′ : List ℕ) (a : ℕ) (big : 8 ≤ a) (anew : ℕ → Bool) (fr
 
     -- What is listed at places that stay is the same, in its order.
     pub same-rest : keep (λ t. not (anew (t .place))) (guardedListing r′ a) ≡ keep (λ t. not (anew (t .place))) (guardedListing r a)
-    unfolding allFrom
-    same-rest = rw (guarded-listing r′ a pos, guarded-listing r a pos, fr .alike)
-        (picked-keep (λ p. not (anew p)) (guarded r a) (guarded r′ a) (places a (placesBelow a (length r - 0)) 0)
-        (λ p m e. same-pick p (at p (mem-places a (placesBelow a (length r - 0)) 0 p m)) (not-true (anew p) e)))
-      where
-        at : (p : ℕ) → (i : ℕ) × (i < placesBelow a (length r - 0)) × (p ≡ 0 + i * a) → Place a p
-        at p (i, lt, e) = (i, omega arith)
+    same-rest = rw (guarded-context-free r′ a pos, guarded-context-free r a pos, fr .alike)
+        (picked-keep (λ p. not (anew p)) (guarded r a) (guarded r′ a) (allPlaces r a) (λ p m e. same-pick p (listed-place r a pos p m .0) (not-true (anew p) e)))
 
     -- If each new magic is a component's too, every magic is.
     pub still-sound : ((p : ℕ) → Place a p → anew p ≡ true → carries r′ p ≡ true → (c : Component) × (guarded r′ a p ≡ some c)) → Sound r′ a

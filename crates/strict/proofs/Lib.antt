@@ -8,6 +8,7 @@ pub mod Reasons
 pub mod Verdicts
 pub mod Strays
 pub mod Checking
+pub mod Names
 pub mod Directories
 pub mod Passes
 pub mod Answers

@@ -1,5 +1,5 @@
 -- The pass over a region, from one magic to the next: what is known at a place, and what the judge's answer there comes to.
-use Prim.Native.Nat.{ℕ, suc, _+_, _≤_, _<_}
+use Prim.Native.Nat.{ℕ, _+_, _≤_, _<_}
 use native.Mathlib.Nat.{zero-add}
 use native.Mathlib.Omega.{arith}
 use mathlib.Core.Path.{_≡_, refl, sym, ap, _∙_}
@@ -10,13 +10,11 @@ use Rattle.component.specs.Component.{Component, span, judge, judged, headerOf}
 use Rattle.component.specs.declared.Header.{Header}
 use Rattle.component.specs.declared.Judged.the-variants.{WellFormed, IllFormed}
 use Rattle.component.proofs.Judging.{judged-some, judged-none}
-use Rattle.walk.specs.Walk.{Entry, nextMagic, plain, onward, plainListing}
+use Rattle.walk.specs.Walk.{Entry, nextMagic, onward, plainListing}
 use Rattle.walk.proofs.Stepping.{header-fits}
-use Rattle.walk.proofs.Hunting.{next-above}
-use Rattle.walk.proofs.Steps.{onward-far}
 use Rattle.strict.specs.Strict.{limit, strays, refused, verdict}
 use Rattle.strict.specs.Directory.{noPlaces, fill}
-use Rattle.strict.proofs.Checking.{Checked, checked-start, checked-ill, checked-buried, checked-on, checked-end}
+use Rattle.strict.proofs.Checking.{Checked, checked-start, checked-ill, checked-buried, checked-on, checked-later, checked-end}
 use Rattle.strict.proofs.Directories.{fill-snoc}
 
 -- Before p all is taken: n components, and their places are in the directory d.
@@ -25,7 +23,7 @@ pub record Passing (r : List ℕ) (a : ℕ) (d : List ℕ) (n p : ℕ) : Type 0 
   pub checked : Checked r a done p
   pub count : n ≡ length done
   pub stored : d ≡ fill noPlaces 0 done
-  pub long : length d ≡ 256
+  pub long : length d ≡ limit
 
 pub pass-start : (r : List ℕ) (a p : ℕ) → p ≡ nextMagic r a 0 (length r) → Passing r a noPlaces 0 p
 unfolding noPlaces fill
@@ -69,7 +67,6 @@ module _ (r : List ℕ) (a : ℕ) (d : List ℕ) (n p : ℕ) (inv : Passing r a 
       -- The pass goes on behind p.
       pub pass-later : (m p′ : ℕ) → m ≡ onward r a (p + (h .offset + h .len)) → p′ ≡ nextMagic r a m (length r) → p < p′
       pass-later m p′ g k =
-          let pos = inv .checked .found inside .0 in
-          let f = header-fits r p h said in
-          let o = onward-far (plain r) r a pos (p + (h .offset + h .len)) (suc p) (omega (arith, f .0)) inside in
-          omega (arith, k, next-above r a pos p m (length r) inside (omega (arith, g, o)))
+          let (c, j, e) = judged-some (judge (drop p r)) h said in
+          let q : p′ ≡ nextMagic r a (onward r a (p + (h .offset + h .len))) (length r) = k ∙ ap (λ (x : ℕ). nextMagic r a x (length r)) g in
+          omega (arith, q, checked-later r a (inv .done) p (inv .checked) inside c j (p + (h .offset + h .len)) (ends c e))

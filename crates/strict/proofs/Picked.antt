@@ -1,5 +1,5 @@
--- What stands in a list of all that may be taken.
-use Prim.Native.Nat.{ℕ, suc, _+_, _*_, _-_, _≤_, _<_}
+-- What may be taken at places, and the places of a region.
+use Prim.Native.Nat.{ℕ, suc, _+_, _*_, _≤_, _<_}
 use native.Mathlib.Nat.{lt-of-mul-lt-mul-right, mul-le-mul-right}
 use native.Mathlib.Omega.{arith}
 use mathlib.Core.Path.{_≡_, refl, sym, ap, _∙_}
@@ -10,7 +10,7 @@ use mathlib.Core.Option.{Option, some, none}
 use lib.ListN.{length}
 use Rattle.component.specs.Component.{Component}
 use Rattle.number.specs.Lists.{keep}
-use Rattle.walk.specs.Walk.{Entry, Pick, placesBelow, places, prepend, picked, allFrom}
+use Rattle.walk.specs.Walk.{Entry, Pick, placesBelow, allPlaces, prepend, picked}
 use Rattle.walk.proofs.Places.{Place, below-ge, below-lt, mem-places, places-mem}
 
 pub mem-picked : (pick : Pick) (ps : List ℕ) (t : Entry) → List·Memᴰ t (picked pick ps) → List·Memᴰ (t .place) ps × (pick (t .place) ≡ some (t .component))
@@ -49,28 +49,18 @@ picked-mem pick (x ∷ xs) p c m e = go (List·Memᴰ·cases-cons m) (λ m′. p
     go (inl q) ih = rw (← q, e) (List·Memᴰ·head refl)
     go (inr n) ih = later (pick x) (ih n)
 
--- All that may be taken in the region: at a place, below the end.
-module _ (pick : Pick) (r : List ℕ) (a : ℕ) (pos : 0 < a) where
-  pub mem-all : (t : Entry) → List·Memᴰ t (allFrom pick r a 0) → Place a (t .place) × (t .place < length r) × (pick (t .place) ≡ some (t .component))
-  unfolding allFrom
-  mem-all t m =
-      let f = mem-picked pick (places a (placesBelow a (length r - 0)) 0) t m in
-      go (mem-places a (placesBelow a (length r - 0)) 0 (t .place) (f .0)) (f .1)
-    where
-      go : (i : ℕ) × (i < placesBelow a (length r - 0)) × (t .place ≡ 0 + i * a) → pick (t .place) ≡ some (t .component)
-          → Place a (t .place) × (t .place < length r) × (pick (t .place) ≡ some (t .component))
-      go (i, i<, e) q =
-          let k : suc i * a ≤ placesBelow a (length r - 0) * a = mul-le-mul-right {m = suc i} {n = placesBelow a (length r - 0)} a i< in
-          ((i, omega arith), omega (arith, below-lt a pos (length r - 0)), q)
+-- All places of the region: those below its end, and no others.
+module _ (r : List ℕ) (a : ℕ) (pos : 0 < a) where
+  pub listed-place : (p : ℕ) → List·Memᴰ p (allPlaces r a) → Place a p × (p < length r)
+  listed-place p m =
+      let (i, lt, e) = mem-places a (placesBelow a (length r)) 0 p m in
+      let k : suc i * a ≤ placesBelow a (length r) * a = mul-le-mul-right {m = suc i} {n = placesBelow a (length r)} a lt in
+      ((i, omega arith), omega (arith, below-lt a pos (length r)))
 
-  pub place-listed : (p : ℕ) → Place a p → p < length r → List·Memᴰ p (places a (placesBelow a (length r - 0)) 0)
+  pub place-listed : (p : ℕ) → Place a p → p < length r → List·Memᴰ p (allPlaces r a)
   place-listed p (i, e) h =
-      let k : i < placesBelow a (length r - 0) = lt-of-mul-lt-mul-right a {m = i} {n = placesBelow a (length r - 0)} (omega (arith, below-ge a pos (length r - 0))) in
-      Memᴰ·cast {b = 0 + i * a} (omega arith) (places-mem a (placesBelow a (length r - 0)) 0 i k)
-
-  pub all-mem : (p : ℕ) (c : Component) → Place a p → p < length r → pick p ≡ some c → List·Memᴰ (record { place = p; component = c }) (allFrom pick r a 0)
-  unfolding allFrom
-  all-mem p c pl lt e = picked-mem pick (places a (placesBelow a (length r - 0)) 0) p c (place-listed p pl lt) e
+      let k : i < placesBelow a (length r) = lt-of-mul-lt-mul-right a {m = i} {n = placesBelow a (length r)} (omega (arith, below-ge a pos (length r))) in
+      Memᴰ·cast {b = 0 + i * a} (omega arith) (places-mem a (placesBelow a (length r)) 0 i k)
 
 keep-out : (test : ℕ → Bool) (p : ℕ) (o : Option Component) (l : List Entry) → test p ≡ false → keep (λ t. test (t .place)) (prepend p o l) ≡ keep (λ t. test (t .place)) l
 unfolding keep prepend

@@ -1,6 +1,5 @@
 -- The strict check's conditions in the paper's words: the lowest stray place, and two names that are equal (document 01, refusals 12 and 11).
 use Prim.Native.Nat.{ℕ, zero, suc, _+_, _*_, _≤_, _<_}
-use native.Mathlib.Nat.{sub-zero}
 use native.Mathlib.Omega.{arith}
 use native.Mathlib.Decide.{decLt}
 use mathlib.Core.Path.{_≡_, refl, sym, ap, _∙_}
@@ -10,15 +9,15 @@ use mathlib.Core.Bool.{Bool, true, false, cond, not, _&&_, _||_, true≢false, f
 use lib.ListN.{length}
 use borrow.Author.Tests.{not-true}
 use Rattle.number.specs.Lists.{any, keep}
-use Rattle.walk.specs.Walk.{Entry, placesBelow, places, carries, plain, plainListing}
+use Rattle.walk.specs.Walk.{Entry, placesBelow, places, allPlaces, carries, plainListing}
 use Rattle.walk.specs.Lookup.{bears}
-use Rattle.walk.proofs.Places.{Place, mem-places}
-use Rattle.walk.proofs.Hunting.{no-places}
+use Rattle.walk.proofs.Places.{Place, no-places, mem-places}
 use Rattle.walk.proofs.Bearers.{bears-name, name-bears}
 use Rattle.walk.proofs.Picks.{carries-fits}
 use Rattle.strict.specs.Strict.{takes, stray, strays, toldApart}
 use Rattle.strict.proofs.Keeping.{both-true, mem-any, keep-empty}
-use Rattle.strict.proofs.Picked.{place-listed}
+use Rattle.strict.proofs.Picked.{listed-place, place-listed}
+use Rattle.strict.proofs.Strays.{stray-true}
 
 -- p is the lowest place with the magic that the plain walk does not take. An alignment of 0 has no places.
 pub record LowestStray (r : List ℕ) (a : ℕ) (p : ℕ) : Type 0 where
@@ -57,31 +56,21 @@ unfolding strays places keep
 no-strays r a z = rw (z, no-places (length r))
 
 module _ (r : List ℕ) (a : ℕ) where
-  stray-of : (q : ℕ) → carries r q ≡ true → takes (plainListing r a) q ≡ false → stray r (plainListing r a) q ≡ true
-  unfolding stray
-  stray-of q c u = rw (c, u)
-
-  listed : 0 < a → (q : ℕ) → Place a q → carries r q ≡ true → List·Memᴰ q (places a (placesBelow a (length r)) 0)
-  listed pos q pl c = rw sub-zero at (place-listed (plain r) r a pos q pl (omega (arith, carries-fits r q c)))
+  listed : 0 < a → (q : ℕ) → Place a q → carries r q ≡ true → List·Memᴰ q (allPlaces r a)
+  listed pos q pl c = place-listed r a pos q pl (omega (arith, carries-fits r q c))
 
   first-lowest : (p : ℕ) (ps : List ℕ) → strays r a ≡ p ∷ ps → LowestStray r a p
   unfolding strays stray
   first-lowest p ps e = go (decLt 0 a) (kept-first (stray r (plainListing r a)) a (placesBelow a (length r)) 0 p ps e)
     where
-      l : List ℕ
-      l = places a (placesBelow a (length r)) 0
-
-      at : List·Memᴰ p l → Place a p
-      at m = let (i, lt, h) = mem-places a (placesBelow a (length r)) 0 p m in (i, omega arith)
-
-      go : Dec (0 < a) → List·Memᴰ p l × (stray r (plainListing r a) p ≡ true) × ((q : ℕ) → List·Memᴰ q l → stray r (plainListing r a) q ≡ true → p ≤ q) → LowestStray r a p
+      go : Dec (0 < a) → List·Memᴰ p (allPlaces r a) × (stray r (plainListing r a) p ≡ true) × ((q : ℕ) → List·Memᴰ q (allPlaces r a) → stray r (plainListing r a) q ≡ true → p ≤ q) → LowestStray r a p
       go (no n) f = absurd (nil≢cons (sym (no-strays r a (omega arith)) ∙ e))
       go (yes pos) f = let b = both-true (carries r p) (not (takes (plainListing r a) p)) (f .1) in record {
         pos = pos;
-        at = at (f .0);
+        at = listed-place r a pos p (f .0) .0;
         magic = b .0;
         untaken = not-true (takes (plainListing r a) p) (b .1);
-        least = λ q pl c u. f .2 q (listed pos q pl c) (stray-of q c u);
+        least = λ q pl c u. f .2 q (listed pos q pl c) (stray-true r (plainListing r a) q c u);
       }
 
   -- The first of the strays is the lowest, and the lowest the first.
@@ -89,7 +78,7 @@ module _ (r : List ℕ) (a : ℕ) where
   lowest-first p = ((λ s. first-lowest p (s .0) (s .1)), λ s. go s (strays r a) refl)
     where
       go : LowestStray r a p → (l : List ℕ) → strays r a ≡ l → (ps : List ℕ) × (strays r a ≡ p ∷ ps)
-      go s [] e = absurd (true≢false (sym (stray-of p (s .magic) (s .untaken)) ∙ keep-empty (stray r (plainListing r a)) (places a (placesBelow a (length r)) 0) (unfold strays in e) p (listed (s .pos) p (s .at) (s .magic))))
+      go s [] e = absurd (true≢false (sym (stray-true r (plainListing r a) p (s .magic) (s .untaken)) ∙ keep-empty (stray r (plainListing r a)) (allPlaces r a) (unfold strays in e) p (listed (s .pos) p (s .at) (s .magic))))
       go s (q ∷ qs) e =
           let t = first-lowest q qs e in
           let h : q ≡ p = omega (arith, t .least p (s .at) (s .magic) (s .untaken), s .least q (t .at) (t .magic) (t .untaken)) in

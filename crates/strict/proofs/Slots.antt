@@ -1,5 +1,5 @@
 -- Slots are whole cells and hold whole spans (the order, demand 3).
-use Prim.Native.Nat.{ℕ, zero, suc, _+_, _*_, _-_, _≤_, _<_}
+use Prim.Native.Nat.{ℕ, zero, suc, _+_, _*_, _≤_, _<_}
 use native.Mathlib.Omega.{arith}
 use native.Mathlib.Decide.{decLe, decLt}
 use mathlib.Core.Path.{_≡_, refl, sym, ap, _∙_}
@@ -11,9 +11,9 @@ use lib.ListN.{length}
 use lib.Dec.{leb, ltb}
 use borrow.Author.Tests.{le-leb, lt-leb, lt-ltb, le-ltb}
 use Rattle.component.specs.Component.{Component, span}
-use Rattle.walk.specs.Walk.{Entry, Pick, end, placesBelow, places, guarded, guardedListing, picked, prepend, allFrom}
+use Rattle.walk.specs.Walk.{Entry, Pick, end, placesBelow, places, guarded, guardedListing, picked, prepend}
 use Rattle.walk.proofs.Places.{Place, mem-places}
-use Rattle.walk.proofs.Picks.{buried-false, guarded-plain, guarded-carries, guarded-fits, guarded-listing}
+use Rattle.walk.proofs.Picks.{buried-false, guarded-plain, guarded-carries, guarded-fits, guarded-context-free}
 use Rattle.strict.specs.Slots.{start, within, hit, Spoilt}
 use Rattle.strict.proofs.Picked.{mem-picked}
 use Rattle.strict.proofs.Frames.{Frame, mem-guarded, place-far, same-component}
@@ -174,8 +174,7 @@ picked-rising pick a (suc k) p pos = go (pick p) (picked-rising pick a k (p + a)
         by d (i, lt, e) = omega arith
 
 pub guarded-rising : (r : List ℕ) (a : ℕ) → 0 < a → Rising (guardedListing r a)
-unfolding allFrom
-guarded-rising r a pos = rw (guarded-listing r a pos) (picked-rising (guarded r a) a (placesBelow a (length r - 0)) 0 pos)
+guarded-rising r a pos = rw (guarded-context-free r a pos) (picked-rising (guarded r a) a (placesBelow a (length r)) 0 pos)
 
 module _ (set : ℕ → Bool) (e : ℕ) where
   within-before : (l : List Entry) (i : ℕ) → ((d : Entry) → List·Memᴰ d l → i < d .place) → within set e l i ≡ false

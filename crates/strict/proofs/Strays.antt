@@ -14,10 +14,10 @@ use borrow.Author.Tests.{eq-eqb, ne-eqb}
 use Rattle.component.specs.Component.{Component, span, judge}
 use Rattle.number.specs.Lists.{any, keep}
 use Rattle.walk.specs.Walk.{Entry, placesBelow, places, carries, nextMagic, plain, step, onward, listingFrom}
-use Rattle.walk.proofs.Places.{Place, below-next, below-end, below-unique, mem-places}
-use Rattle.walk.proofs.Hunting.{no-places, next-end, next-here, next-not, next-above, next-carries, by-places}
+use Rattle.walk.proofs.Places.{Place, no-places, below-next, below-end, below-unique, mem-places}
+use Rattle.walk.proofs.Hunting.{next-end, next-here, next-not, next-above, next-carries, by-places, over-quiet, quiet-all}
 use Rattle.walk.proofs.Steps.{Stop, Listed, mem-steps, onward-stop, onward-far, rest-none, rest-some, step-here, step-next}
-use Rattle.walk.proofs.Stepping.{hunted, pick-fits, step-none, step-past}
+use Rattle.walk.proofs.Stepping.{hunted, pick-fits, step-no-places, step-past}
 use Rattle.walk.proofs.Picks.{plain-fits}
 use Rattle.strict.specs.Strict.{takes, stray, strays, straysFrom, lowest, firstStray}
 use Rattle.strict.proofs.Keeping.{keep-same}
@@ -39,7 +39,7 @@ list-same r a n m s = go (step (plain r) r a n) refl (decLt 0 a)
     go none e d = rest-none (plain r) r a n e ∙ sym (rest-none (plain r) r a m (sym s ∙ e))
     go (some t) e (yes pos) = rest-some (plain r) r a pos (pick-fits false r a pos) n t e ∙ sym (rest-some (plain r) r a pos (pick-fits false r a pos) m t (sym s ∙ e))
     go (some t) e (no h) =
-        rest-none (plain r) r a n (step-none (plain r) r a n (omega arith)) ∙ sym (rest-none (plain r) r a m (step-none (plain r) r a m (omega arith)))
+        rest-none (plain r) r a n (step-no-places (plain r) r a n (omega arith)) ∙ sym (rest-none (plain r) r a m (step-no-places (plain r) r a m (omega arith)))
 
 -- From any number the listing is that from the next magic on; with none left it is empty.
 
@@ -76,7 +76,7 @@ stray-taken : (r : List ℕ) (l : List Entry) (x : ℕ) → carries r x ≡ true
 unfolding stray
 stray-taken r l x c t = rw (c, t)
 
-stray-true : (r : List ℕ) (l : List Entry) (x : ℕ) → carries r x ≡ true → takes l x ≡ false → stray r l x ≡ true
+pub stray-true : (r : List ℕ) (l : List Entry) (x : ℕ) → carries r x ≡ true → takes l x ≡ false → stray r l x ≡ true
 unfolding stray
 stray-true r l x c t = rw (c, t)
 
@@ -104,17 +104,15 @@ module _ (r : List ℕ) (a : ℕ) (pos : 0 < a) where
   kept-not f n h y = rw (row-next n h, y)
 
   -- Up to the next magic nothing is stray, whatever is listed.
+
+  kept-quiet : (l : List Entry) (n : ℕ) → n < length r → carries r n ≡ false → keep (stray r l) (row r a n) ≡ keep (stray r l) (row r a (n + a))
+  kept-quiet l n h y = kept-not (stray r l) n h (stray-quiet r l n y)
+
   kept-hunt : (l : List Entry) (b n : ℕ) → b ≤ length r → nextMagic r a n b < b → keep (stray r l) (row r a n) ≡ keep (stray r l) (row r a (nextMagic r a n b))
-  kept-hunt l b n h = by-places r a pos b (λ n. nextMagic r a n b < b → keep (stray r l) (row r a n) ≡ keep (stray r l) (row r a (nextMagic r a n b)))
-      (λ n k lt. absurd (omega (arith, lt, next-end r a pos n b k)))
-      (λ n k y lt. rw (next-here r a pos n b k y))
-      (λ n k y ih lt. kept-not (stray r l) n (omega arith) (stray-quiet r l n y) ∙ ih (rw (next-not r a pos n b k y) at lt) ∙ ap (λ (m : ℕ). keep (stray r l) (row r a m)) (sym (next-not r a pos n b k y))) n
+  kept-hunt l b n h = over-quiet r a pos (λ n. keep (stray r l) (row r a n)) b (λ n k y. kept-quiet l n (omega arith) y) n
 
   kept-hunt-end : (l : List Entry) (n : ℕ) → keep (stray r l) (row r a n) ≡ keep (stray r l) (row r a (nextMagic r a n (length r)))
-  kept-hunt-end l n = by-places r a pos (length r) (λ n. keep (stray r l) (row r a n) ≡ keep (stray r l) (row r a (nextMagic r a n (length r))))
-      (λ n k. rw (next-end r a pos n (length r) k, row-end n k, row-end (length r) (omega arith)))
-      (λ n k y. rw (next-here r a pos n (length r) k y))
-      (λ n k y ih. kept-not (stray r l) n k (stray-quiet r l n y) ∙ ih ∙ ap (λ (m : ℕ). keep (stray r l) (row r a m)) (sym (next-not r a pos n (length r) k y))) n
+  kept-hunt-end l n = quiet-all r a pos (λ n. keep (stray r l) (row r a n)) (length r) (kept-quiet l) (λ n k. rw (row-end n k, row-end (length r) (omega arith))) n
 
   onward-at : (e n : ℕ) → Place a n → e ≤ n → n < e + a → onward r a e ≡ min n (length r)
   unfolding onward
@@ -128,7 +126,7 @@ module _ (r : List ℕ) (a : ℕ) (pos : 0 < a) where
   kept-onward l e n h = by-places r a pos e (λ n. Place a n → n < e + a → e ≤ nextMagic r a n e → keep (stray r l) (row r a n) ≡ keep (stray r l) (row r a (onward r a e)))
       (λ n k pl lt _. ended n k pl lt)
       (λ n k y pl lt q. absurd (omega (arith, q, next-here r a pos n e k y)))
-      (λ n k y ih pl lt q. kept-not (stray r l) n (omega arith) (stray-quiet r l n y) ∙ ih (suc (pl .0), omega (arith, pl .1)) (omega arith) (rw (next-not r a pos n e k y) at q)) n
+      (λ n k y ih pl lt q. kept-quiet l n (omega arith) y ∙ ih (suc (pl .0), omega (arith, pl .1)) (omega arith) (rw (next-not r a pos n e k y) at q)) n
     where
       ended : (n : ℕ) → e ≤ n → Place a n → n < e + a → keep (stray r l) (row r a n) ≡ keep (stray r l) (row r a (onward r a e))
       ended n k pl lt = rw (onward-at e n pl k lt) (go (decLe n (length r)))
@@ -138,7 +136,7 @@ module _ (r : List ℕ) (a : ℕ) (pos : 0 < a) where
           go (no y) = let m : min n (length r) ≡ length r = omega arith in rw (m, row-end n (omega arith), row-end (length r) (omega arith))
 
   -- The walk begun at n takes nothing before n.
-  taken-after : (n x : ℕ) → Stop (plain r) r a pos n → x < n → takes (plainFrom r a n) x ≡ false
+  taken-after : (n x : ℕ) → Stop r a n → x < n → takes (plainFrom r a n) x ≡ false
   unfolding listingFrom
   taken-after n x s h = go (takes (plainFrom r a n) x) refl
     where
@@ -214,8 +212,8 @@ module _ (r : List ℕ) (a : ℕ) (pos : 0 < a) (p : ℕ) (at : Place a p) (insi
     list-well = rw ends (rest-some (plain r) r a pos (pick-fits false r a pos) p here (step-here (plain r) r a pos p c inside well))
 
     -- The number to go on from lies past p, and past the span.
-    pub onward-past : (p < onward r a e) × (e ≤ onward r a e)
-    onward-past = (onward-far (plain r) r a pos e (suc p) (omega (arith, fits)) (omega (arith, fits)), onward-far (plain r) r a pos e e (omega arith) (fits .1))
+    pub onward-behind : (p < onward r a e) × (e ≤ onward r a e)
+    onward-behind = (onward-far r a pos e (suc p) (omega (arith, fits)) (omega (arith, fits)), onward-far r a pos e e (omega arith) (fits .1))
 
     from-well : straysFrom r a p ≡ keep (stray r (here ∷ plainFrom r a (onward r a e))) (row r a (p + a))
     unfolding straysFrom
@@ -232,7 +230,7 @@ module _ (r : List ℕ) (a : ℕ) (pos : 0 < a) (p : ℕ) (at : Place a p) (insi
         later : (x : ℕ) → List·Memᴰ x (row r a (onward r a e)) → takes (here ∷ plainFrom r a (onward r a e)) x ≡ takes (plainFrom r a (onward r a e)) x
         later x m =
             let (i, _, h) = mem-places a (placesBelow a (length r - onward r a e)) (onward r a e) x m in
-            takes-cons here (plainFrom r a (onward r a e)) x (λ z. omega (arith, z, h, onward-past))
+            takes-cons here (plainFrom r a (onward r a e)) x (λ z. omega (arith, z, h, onward-behind))
 
     pub first-open : e ≤ nextMagic r a (p + a) e → firstStray r a p ≡ firstStray r a (onward r a e)
     first-open q = ap lowest (from-open q)
@@ -253,4 +251,4 @@ module _ (r : List ℕ) (a : ℕ) (pos : 0 < a) (p : ℕ) (at : Place a p) (insi
 
         untaken : takes listed q ≡ false
         untaken = takes-cons here (plainFrom r a (onward r a e)) q (λ z. omega (arith, z, after))
-            ∙ taken-after r a pos (onward r a e) q (onward-stop (plain r) r a pos e) (omega (arith, onward-past))
+            ∙ taken-after r a pos (onward r a e) q (onward-stop r a e) (omega (arith, onward-behind))

@@ -9,7 +9,7 @@ use lib.ListN.{length, length-map}
 use lib.Dec.{ltb}
 use borrow.Author.Tests.{lt-ltb, le-ltb, ltb-true, ltb-false}
 use Rattle.walk.specs.Walk.{Entry, plainListing}
-use Rattle.strict.specs.Strict.{strays, toldApart, Accepted, Verdict, refused, accepted, placesOf, decide, verdict}
+use Rattle.strict.specs.Strict.{limit, strays, toldApart, Accepted, Verdict, refused, accepted, placesOf, decide, verdict}
 use Rattle.strict.proofs.Reasons.{LowestStray, lowest-first, TwoAlike, alike-exactly}
 
 -- The four cases.
@@ -117,13 +117,13 @@ module _ (most : ℕ) (r : List ℕ) (a : ℕ) where
 
 -- The strict check accepts exactly under document 01's three conditions; then its places are the plain listing's, as many as it is long.
 
-pub accepted-exactly : (r : List ℕ) (a : ℕ) (ps : List ℕ) → (verdict 256 r a ≡ accepted ps) ↔ (Accepted r a × (ps ≡ placesOf (plainListing r a)))
+pub accepted-exactly : (r : List ℕ) (a : ℕ) (ps : List ℕ) → (verdict limit r a ≡ accepted ps) ↔ (Accepted r a × (ps ≡ placesOf (plainListing r a)))
 accepted-exactly r a ps = (
-  λ v. let h = accepts 256 r a ps .0 v in (record { all-taken = h .0; few = h .1; told-apart = h .2 }, h .3),
-  λ h. accepts 256 r a ps .1 (h .0 .all-taken, h .0 .few, h .0 .told-apart, h .1),
+  λ v. let h = accepts limit r a ps .0 v in (record { all-taken = h .0; few = h .1; told-apart = h .2 }, h .3),
+  λ h. accepts limit r a ps .1 (h .0 .all-taken, h .0 .few, h .0 .told-apart, h .1),
 )
 
-pub accepted-count : (r : List ℕ) (a : ℕ) (ps : List ℕ) → verdict 256 r a ≡ accepted ps → (length ps ≡ length (plainListing r a)) × (length ps ≤ 256)
+pub accepted-count : (r : List ℕ) (a : ℕ) (ps : List ℕ) → verdict limit r a ≡ accepted ps → (length ps ≡ length (plainListing r a)) × (length ps ≤ limit)
 accepted-count r a ps v =
     let h = accepted-exactly r a ps .0 v in
     let n : length ps ≡ length (plainListing r a) = ap length (h .1) ∙ length-map (plainListing r a) (λ (t : Entry). t .place) in

@@ -1,5 +1,5 @@
 -- The directory that the strict check answers (document 01: 256 places, unused ones holding zero, and a count), and the steps towards it.
-use Prim.Native.Nat.{ℕ, _+_, _<_}
+use Prim.Native.Nat.{ℕ, _+_, _*_, _%_, _<_}
 use mathlib.Core.Path.{_≡_}
 use mathlib.Core.List.{List, [], _∷_, map}
 use mathlib.Core.Bool.{Bool, true, false, cond, not, _&&_}
@@ -36,16 +36,32 @@ pub record Passed (r : List ℕ) (a : ℕ) (s : Pass) : Type 0 where
   pub stray : s .astray ≡ true → (verdict limit r a ≡ refused 12 (s .place)) × (s .place < length r)
   pub clean : s .astray ≡ false → (strays r a ≡ []) × (s .count ≡ length (plainListing r a)) × (s .places ≡ fill noPlaces 0 (plainListing r a))
 
--- l holds how long the names of the components at the first n places are.
-pub record NameLengths (r places : List ℕ) (n : ℕ) (l : List ℕ) : Type 0 where
+-- The name of the component at the place p; empty where none stands.
+abbrev pub nameAt : List ℕ → ℕ → List ℕ
+nameAt r p = nameOf (judge (drop p r))
+
+-- A digest taken one byte further; it stays below 2^32. Then further by all the bytes of a list.
+abbrev pub stirred : ℕ → ℕ → ℕ
+stirred h b = (h * 31 + b) % 4294967296
+
+unfoldable pub digestOn : ℕ → List ℕ → ℕ
+digestOn h [] = h
+digestOn h (b ∷ bs) = digestOn (stirred h b) bs
+
+-- The digest of a name: a number that equal names share, so that names with different digests differ.
+abbrev pub digestOf : List ℕ → ℕ
+digestOf name = digestOn 0 name
+
+-- l holds the digests of the names of the components at the first n places.
+pub record NameDigests (r places : List ℕ) (n : ℕ) (l : List ℕ) : Type 0 where
   pub wide : length l ≡ limit
-  pub each : (k : ℕ) → k < n → getD l k 0 ≡ length (nameOf (judge (drop (getD places k 0) r)))
+  pub each : (k : ℕ) → k < n → getD l k 0 ≡ digestOf (nameAt r (getD places k 0))
 
 -- The component at the place p bears the name.
 unfoldable pub named : List ℕ → List ℕ → ℕ → Bool
-named r name p = eqBytes (nameOf (judge (drop p r))) name
+named r name p = eqBytes (nameAt r p) name
 
 -- No two of the components at these places have the same name.
 unfoldable pub apartAt : List ℕ → List ℕ → Bool
 apartAt r [] = true
-apartAt r (p ∷ ps) = let rest = apartAt r ps in not (any (named r (nameOf (judge (drop p r)))) ps) && rest
+apartAt r (p ∷ ps) = let rest = apartAt r ps in not (any (named r (nameAt r p)) ps) && rest

@@ -57,14 +57,15 @@ decide most [] l = cond (ltb most (length l)) (refused 13 0) (cond (toldApart l)
 unfoldable pub verdict : ℕ → List ℕ → ℕ → Verdict
 verdict most r a = decide most (strays r a) (plainListing r a)
 
--- The same from the number n on: what the plain walk begun at n does not take of the places from n on.
+-- The strays from the number n on: what the plain walk begun there does not take of the places from n on.
 unfoldable pub straysFrom : List ℕ → ℕ → ℕ → List ℕ
 straysFrom r a n = keep (stray r (listingFrom (plain r) r a n)) (places a (placesBelow a (length r - n)) n)
 
+-- The first of a list, if it has one.
 unfoldable pub lowest : List ℕ → Option ℕ
 lowest [] = none
 lowest (p ∷ ps) = some p
 
--- The lowest of them, if there is one.
+-- The lowest stray from n on, if there is one.
 abbrev pub firstStray : List ℕ → ℕ → ℕ → Option ℕ
 firstStray r a n = lowest (straysFrom r a n)

@@ -9,7 +9,7 @@ ghost use lib.ListN.{length, take, drop, getD, set};
 ghost use Rattle.number.specs.Lists.{any};
 ghost use Rattle.terms.specs.Terms.{bytesOf};
 ghost use Rattle.strict.specs.Strict.{limit, verdict};
-ghost use Rattle.strict.specs.Directory.{noPlaces, refusal, directory, Passed, NameLengths, named, apartAt};
+ghost use Rattle.strict.specs.Directory.{noPlaces, refusal, directory, Passed, nameAt, stirred, digestOf, NameDigests, named, apartAt};
 
 // The components' places and zeros after them, and their count; or a refusal's number and place, and zeros elsewhere.
 pub struct Directory {
@@ -81,39 +81,77 @@ fn pass_over(r: &[u8], align: usize) -> Pass
     }
 }
 
-// The lengths of the names of the components at the first n places. A name is then read without judging its header again for each comparison.
-fn name_lengths(r: &[u8], places: &[usize], n: usize) -> [usize; 256]
-    requires { ⌜ (n ≤ length (now places)) × (n ≤ 256) ⌝ }
-    ensures { λ l. ⌜ NameLengths (now (r .entry)) (now (places .entry)) n l ⌝ }
+// The name of the component at p.
+fn name_at(r: &[u8], p: usize) -> &[u8]
+    ensures { λ n. ⌜ now n ≡ nameAt (now (r .entry)) p ⌝ }
 {
-    let mut lengths = [0usize; 256];
+    component::name(number::rest(r, p))
+}
+
+// A digest taken one byte further.
+fn stir(h: usize, b: u8) -> usize
+    requires { ⌜ h < 4294967296 ⌝ }
+    ensures { λ r. ⌜ r ≡ stirred h b ⌝ }
+{
+    (h * 31 + b as usize) % 4294967296
+}
+
+// The digest of a name. Names with different digests differ, so that most names are told apart by one number, and their bytes are not read again.
+fn digest(s: &[u8]) -> usize
+    ensures { λ h. ⌜ h ≡ digestOf (now (s .entry)) ⌝ }
+{
+    let mut h = 0;
+    let mut i = 0;
+    while i < s.len() {
+        h = stir(h, s[i]);
+        i += 1;
+    }
+    h
+}
+
+// The digests of the names of the components at the first n places.
+fn name_digests(r: &[u8], places: &[usize], n: usize) -> [usize; 256]
+    requires { ⌜ (n ≤ length (now places)) × (n ≤ 256) ⌝ }
+    ensures { λ l. ⌜ NameDigests (now (r .entry)) (now (places .entry)) n l ⌝ }
+{
+    let mut digests = [0usize; 256];
     let mut i = 0;
     while i < n {
         let p = places[i];
-        let name = component::name(number::rest(r, p));
-        lengths[i] = name.len();
+        digests[i] = digest(name_at(r, p));
         i += 1;
     }
-    lengths
+    digests
 }
 
-// One of the components at the places from `from` up to `to` bears the name.
+// The component at p bears the name. `there` and `asked` are the digests of its name and of the name: only where they agree are the bytes compared.
+fn is_named(r: &[u8], p: usize, there: usize, name: &[u8], asked: usize) -> bool
+    requires { ⌜ (there ≡ digestOf (nameAt (now r) p)) × (asked ≡ digestOf (now name)) ⌝ }
+    ensures { λ b. ⌜ b ≡ named (now (r .entry)) (now (name .entry)) p ⌝ }
+{
+    if there != asked {
+        return false;
+    }
+    let own = name_at(r, p);
+    number::equal(own, name)
+}
+
+// One of the components at the places from `from` up to `to` bears the name, whose digest is `asked`.
 fn any_named(
     r: &[u8],
     places: &[usize],
-    lengths: &[usize],
+    digests: &[usize],
     from: usize,
     to: usize,
     name: &[u8],
+    asked: usize,
 ) -> bool
-    requires { ⌜ (from ≤ to) × (to ≤ length (now places)) × (to ≤ 256) × NameLengths (now r) (now places) to (now lengths) ⌝ }
+    requires { ⌜ (from ≤ to) × (to ≤ length (now places)) × (to ≤ 256) × NameDigests (now r) (now places) to (now digests) × (asked ≡ digestOf (now name)) ⌝ }
     ensures { λ b. ⌜ b ≡ any (named (now (r .entry)) (now (name .entry))) (take (to - from) (drop from (now (places .entry)))) ⌝ }
 {
     let mut k = from;
     while k < to {
-        let p = places[k];
-        let m = lengths[k];
-        if number::equal(number::part(number::rest(r, p), 24, m), name) {
+        if is_named(r, places[k], digests[k], name, asked) {
             return true;
         }
         k += 1;
@@ -126,13 +164,12 @@ fn apart(r: &[u8], places: &[usize], n: usize) -> bool
     requires { ⌜ (n ≤ length (now places)) × (n ≤ 256) ⌝ }
     ensures { λ b. ⌜ b ≡ apartAt (now (r .entry)) (take n (now (places .entry))) ⌝ }
 {
-    let lengths = name_lengths(r, places, n);
+    let digests = name_digests(r, places, n);
     let mut i = 0;
     while i < n {
         let p = places[i];
-        let m = lengths[i];
-        let name = number::part(number::rest(r, p), 24, m);
-        if any_named(r, places, &lengths, i + 1, n, name) {
+        let asked = digests[i];
+        if any_named(r, places, &digests, i + 1, n, name_at(r, p), asked) {
             return false;
         }
         i += 1;

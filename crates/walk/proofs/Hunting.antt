@@ -1,9 +1,9 @@
 -- Laws of the hunt for the next place with the magic.
 use Prim.Native.Nat.{ℕ, zero, suc, _+_, _*_, _-_, _≤_, _<_, min}
-use native.Mathlib.Nat.{div-zero, sub-zero, zero-add, mul-le-mul-right}
+use native.Mathlib.Nat.{sub-zero, zero-add, mul-le-mul-right}
 use native.Mathlib.Omega.{arith}
 use native.Mathlib.Decide.{decLt}
-use mathlib.Core.Path.{_≡_, refl, sym, _∙_}
+use mathlib.Core.Path.{_≡_, refl, sym, ap, _∙_}
 use mathlib.Core.List.{List}
 use mathlib.Core.Bool.{Bool, true, false, cond, _||_, true≢false}
 use lib.ListN.{length, take, drop, length-drop}
@@ -14,7 +14,7 @@ use Rattle.component.proofs.Judging.{short-no-magic, magic-eight}
 use Rattle.number.proofs.Splice.{rest}
 use Rattle.number.specs.Lists.{any}
 use Rattle.walk.specs.Walk.{placesBelow, places, carries, seek, nextMagic, buried}
-use Rattle.walk.proofs.Places.{below-lt, below-next, below-end, below-zero}
+use Rattle.walk.proofs.Places.{no-places, below-lt, below-next, below-end, below-zero}
 
 -- Fewer than eight bytes from the end no place carries the magic.
 pub carries-end : (r : List ℕ) (p : ℕ) → length r < p + 8 → carries r p ≡ false
@@ -34,11 +34,6 @@ carries-rest r p e = sym (rw rest at e)
 -- No place carries the magic from min b (length r - 7) on, up to b.
 pub quiet-past : (r : List ℕ) (b s : ℕ) → s ≡ min b (length r - 7) → (x : ℕ) → s ≤ x → x < b → carries r x ≡ false
 quiet-past r b s e x h l = carries-end r x (omega (arith, e))
-
--- An alignment of 0 has no places.
-pub no-places : (n : ℕ) → placesBelow 0 n ≡ 0
-unfolding placesBelow
-no-places n = div-zero (n + 0)
 
 pub next-none : (r : List ℕ) (a n b : ℕ) → a ≡ 0 → nextMagic r a n b ≡ b
 unfolding nextMagic seek
@@ -85,6 +80,21 @@ module _ (r : List ℕ) (a : ℕ) (pos : 0 < a) where
   pub next-carries : (n b : ℕ) → nextMagic r a n b < b → carries r (nextMagic r a n b) ≡ true
   next-carries n b = by-places b (λ n. nextMagic r a n b < b → carries r (nextMagic r a n b) ≡ true)
       (λ n h k. absurd (omega (arith, k, next-end n b h))) (λ n h y k. rw (next-here n b h y) y) (λ n h y ih k. rw (next-not n b h y) (ih (rw (next-not n b h y) at k))) n
+
+  -- What is the same from one place to the next where no magic is carried is the same up to what is found.
+
+  pub over-quiet : {A : Type 0} (F : ℕ → A) (b : ℕ) → ((n : ℕ) → n < b → carries r n ≡ false → F n ≡ F (n + a)) → (n : ℕ) → nextMagic r a n b < b → F n ≡ F (nextMagic r a n b)
+  over-quiet F b same = by-places b (λ n. nextMagic r a n b < b → F n ≡ F (nextMagic r a n b))
+      (λ n h k. absurd (omega (arith, k, next-end n b h)))
+      (λ n h y k. ap F (sym (next-here n b h y)))
+      (λ n h y ih k. same n h y ∙ ih (rw (next-not n b h y) at k) ∙ ap F (sym (next-not n b h y)))
+
+  -- The same where nothing is found, if it is the same from the end on.
+  pub quiet-all : {A : Type 0} (F : ℕ → A) (b : ℕ) → ((n : ℕ) → n < b → carries r n ≡ false → F n ≡ F (n + a)) → ((n : ℕ) → b ≤ n → F n ≡ F b) → (n : ℕ) → F n ≡ F (nextMagic r a n b)
+  quiet-all F b same past = by-places b (λ n. F n ≡ F (nextMagic r a n b))
+      (λ n h. past n h ∙ ap F (sym (next-end n b h)))
+      (λ n h y. ap F (sym (next-here n b h y)))
+      (λ n h y ih. same n h y ∙ ih ∙ ap F (sym (next-not n b h y)))
 
   -- A hunt that ends sooner, where no place from there on carries the magic.
 

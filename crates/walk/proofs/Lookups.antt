@@ -1,5 +1,5 @@
 -- Laws of listings and bearers, for a loop that takes one step after the other. g tells the guarded walk.
-use Prim.Native.Nat.{ℕ, zero, suc, _+_, _-_, _≤_, _<_}
+use Prim.Native.Nat.{ℕ, zero, suc, _+_, _≤_, _<_}
 use native.Mathlib.Omega.{arith}
 use native.Mathlib.Decide.{decLt}
 use mathlib.Core.Path.{_≡_, refl, sym, ap, subst, _∙_}
@@ -19,7 +19,7 @@ use Rattle.walk.specs.declared.Step.the-variants.{Took, NoneLeft}
 use Rattle.walk.specs.declared.Found.the-variants.{At, Refused}
 use Rattle.walk.proofs.Steps.{First, step-some, rest-none, rest-some, onward-far}
 use Rattle.walk.proofs.Picks.{guarded-plain}
-use Rattle.walk.proofs.Stepping.{pick-fits, step-none, step-past}
+use Rattle.walk.proofs.Stepping.{pick-fits, step-no-places, step-past}
 
 -- From the answer to the component.
 
@@ -47,7 +47,7 @@ module _ (g : Bool) (r : List ℕ) (a n : ℕ) where
     where
       go : Dec (0 < a) → 0 < a
       go (yes h) = h
-      go (no h) = absurd (Option·none-ne-some e (sym (step-none (pickOf g r a) r a n (omega arith)) ∙ s))
+      go (no h) = absurd (Option·none-ne-some e (sym (step-no-places (pickOf g r a) r a n (omega arith)) ∙ s))
 
   pub pick-judged : 0 < a → (p : ℕ) (c : Component) → pickOf g r a p ≡ some c → judge (drop p r) ≡ some c
   unfolding plain
@@ -71,7 +71,7 @@ module _ (g : Bool) (r : List ℕ) (a n : ℕ) where
         inside = f .inside;
         judged = j;
         fits = b .1;
-        later = omega (arith, f .at, onward-far (pickOf g r a) r a pos (end e) (suc (e .place)) (omega (arith, b .0)) (f .inside));
+        later = omega (arith, f .at, onward-far r a pos (end e) (suc (e .place)) (omega (arith, b .0)) (f .inside));
         named = sym (part-in (drop (e .place) r) 24 (length (e .component .name)) (omega (arith, i .1, m .1))) ∙ m .2;
       }
 
@@ -162,24 +162,24 @@ module _ (g : Bool) (r : List ℕ) (a : ℕ) (name : List ℕ) where
       go (x ∷ l) s = let z : _≡_ {A = ℕ} 0 1 = cc in absurd (omega arith)
 
   module _ (t : Taken) (s : told r a (firstOf (bearersFrom (pickOf g r a) r a name 0)) ≡ Took t) where
-    twice : (e : Entry) → takenOf r a e ≡ t → (l : List Entry) → told r a (firstOf l) ≡ NoneLeft → At t ≡ found r a (only (e ∷ l))
+    alone : (e : Entry) → takenOf r a e ≡ t → (l : List Entry) → told r a (firstOf l) ≡ NoneLeft → At t ≡ found r a (only (e ∷ l))
     unfolding only
-    twice e q [] u = ap At (sym q)
-    twice e q (x ∷ l) u = let z : _≡_ {A = ℕ} 0 1 = cc in absurd (omega arith)
+    alone e q [] u = ap At (sym q)
+    alone e q (x ∷ l) u = let z : _≡_ {A = ℕ} 0 1 = cc in absurd (omega arith)
 
-    more : (e : Entry) (l : List Entry) (v : Taken) → told r a (firstOf l) ≡ Took v → Refused 11 ≡ found r a (only (e ∷ l))
+    not-alone : (e : Entry) (l : List Entry) (v : Taken) → told r a (firstOf l) ≡ Took v → Refused 11 ≡ found r a (only (e ∷ l))
     unfolding only
-    more e [] v u = let z : _≡_ {A = ℕ} 0 1 = cc in absurd (omega arith)
-    more e (x ∷ l) v u = refl
+    not-alone e [] v u = let z : _≡_ {A = ℕ} 0 1 = cc in absurd (omega arith)
+    not-alone e (x ∷ l) v u = refl
 
     pub only-found : told r a (firstOf (bearersFrom (pickOf g r a) r a name (t .next))) ≡ NoneLeft → At t ≡ found r a (only (bearersFrom (pickOf g r a) r a name 0))
     only-found u = let (e, f, q) = told-some r a (firstOf (bearersFrom (pickOf g r a) r a name 0)) t s in go e f q
       where
         go : (e : Entry) → firstOf (bearersFrom (pickOf g r a) r a name 0) ≡ some e → takenOf r a e ≡ t → At t ≡ found r a (only (bearersFrom (pickOf g r a) r a name 0))
-        go e f q = rw (bearers-after 0 e f) (twice e q (bearersFrom (pickOf g r a) r a name (next r a e)) (ap (λ (x : Taken). told r a (firstOf (bearersFrom (pickOf g r a) r a name (x .next)))) q ∙ u))
+        go e f q = rw (bearers-after 0 e f) (alone e q (bearersFrom (pickOf g r a) r a name (next r a e)) (ap (λ (x : Taken). told r a (firstOf (bearersFrom (pickOf g r a) r a name (x .next)))) q ∙ u))
 
     pub only-twice : (v : Taken) → told r a (firstOf (bearersFrom (pickOf g r a) r a name (t .next))) ≡ Took v → Refused 11 ≡ found r a (only (bearersFrom (pickOf g r a) r a name 0))
     only-twice v u = let (e, f, q) = told-some r a (firstOf (bearersFrom (pickOf g r a) r a name 0)) t s in go e f q
       where
         go : (e : Entry) → firstOf (bearersFrom (pickOf g r a) r a name 0) ≡ some e → takenOf r a e ≡ t → Refused 11 ≡ found r a (only (bearersFrom (pickOf g r a) r a name 0))
-        go e f q = rw (bearers-after 0 e f) (more e (bearersFrom (pickOf g r a) r a name (next r a e)) v (ap (λ (x : Taken). told r a (firstOf (bearersFrom (pickOf g r a) r a name (x .next)))) q ∙ u))
+        go e f q = rw (bearers-after 0 e f) (not-alone e (bearersFrom (pickOf g r a) r a name (next r a e)) v (ap (λ (x : Taken). told r a (firstOf (bearersFrom (pickOf g r a) r a name (x .next)))) q ∙ u))

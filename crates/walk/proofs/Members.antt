@@ -1,4 +1,4 @@
--- Members of listings and of what is kept of them.
+-- Members of listings, of what is kept of them, and what a lookup gives of them.
 use Prim.Native.Nat.{ℕ, _≤_, _<_}
 use native.Mathlib.Nat.{min-le-right}
 use native.Mathlib.Omega.{arith}
@@ -17,7 +17,7 @@ use Rattle.walk.specs.declared.Taken.{Taken}
 use Rattle.walk.specs.declared.Found.the-variants.{At, Refused}
 use Rattle.walk.proofs.Places.{Place}
 use Rattle.walk.proofs.Steps.{Listed, mem-listing, rest-none}
-use Rattle.walk.proofs.Stepping.{pick-fits, step-none}
+use Rattle.walk.proofs.Stepping.{pick-fits, step-no-places}
 use Rattle.walk.proofs.Lookups.{pick-judged}
 
 module _ {ℓ} {A : Type ℓ} where
@@ -73,23 +73,13 @@ given g r a e m = go (decLt 0 a)
           judged = pick-judged g r a 0 pos (e .place) (e .component) (l .taken);
           fits = pick-fits g r a pos (e .place) (e .component) (l .taken) .1;
         }
-    go (no h) = absurd (List·Memᴰ·not-nil (subst (λ (l : List Entry). List·Memᴰ e l) (rest-none (pickOf g r a) r a 0 (step-none (pickOf g r a) r a 0 (omega arith))) m))
+    go (no h) = absurd (List·Memᴰ·not-nil (subst (λ (l : List Entry). List·Memᴰ e l) (rest-none (pickOf g r a) r a 0 (step-no-places (pickOf g r a) r a 0 (omega arith))) m))
 
 -- The first of a list is one of it.
 pub first-member : (l : List Entry) (e : Entry) → foremost l ≡ gives e → List·Memᴰ e l
 unfolding foremost
 first-member [] e q = let z : _≡_ {A = ℕ} 0 1 = cc in absurd (omega arith)
 first-member (x ∷ l) e q = List·Memᴰ·head {x = x} (cc)
-
--- From a lookup's answer to the component.
-
-pub found-some : (r : List ℕ) (a : ℕ) (o : Answer) (t : Taken) → found r a o ≡ At t → (e : Entry) × (o ≡ gives e) × (takenOf r a e ≡ t)
-found-some r a (refused n) t q = let z : _≡_ {A = ℕ} 0 1 = cc in absurd (omega arith)
-found-some r a (gives e) t q = (e, refl, (cc))
-
-pub found-none : (r : List ℕ) (a : ℕ) (o : Answer) (n : ℕ) → found r a o ≡ Refused n → o ≡ refused n
-found-none r a (refused m) n q = cc
-found-none r a (gives e) n q = let z : _≡_ {A = ℕ} 0 1 = cc in absurd (omega arith)
 
 -- The only one of a list is one of it.
 pub only-member : (l : List Entry) (e : Entry) → only l ≡ gives e → List·Memᴰ e l
@@ -102,3 +92,13 @@ only-member (x ∷ y ∷ l) e q = let z : _≡_ {A = ℕ} 0 1 = cc in absurd (om
 pub lookup-member : (w : Bool) (r : List ℕ) (a : ℕ) (name : List ℕ) (e : Entry) → lookupOf w r a name ≡ gives e → List·Memᴰ e (listing (pickOf w r a) r a) × (bears name e ≡ true)
 lookup-member true r a name e q = mem-keep (bears name) (guardedListing r a) e (only-member (keep (bears name) (guardedListing r a)) e q)
 lookup-member false r a name e q = mem-keep (bears name) (plainListing r a) e (first-member (keep (bears name) (plainListing r a)) e q)
+
+-- From a lookup's answer to the component.
+
+pub found-some : (r : List ℕ) (a : ℕ) (o : Answer) (t : Taken) → found r a o ≡ At t → (e : Entry) × (o ≡ gives e) × (takenOf r a e ≡ t)
+found-some r a (refused n) t q = let z : _≡_ {A = ℕ} 0 1 = cc in absurd (omega arith)
+found-some r a (gives e) t q = (e, refl, (cc))
+
+pub found-none : (r : List ℕ) (a : ℕ) (o : Answer) (n : ℕ) → found r a o ≡ Refused n → o ≡ refused n
+found-none r a (refused m) n q = cc
+found-none r a (gives e) n q = let z : _≡_ {A = ℕ} 0 1 = cc in absurd (omega arith)

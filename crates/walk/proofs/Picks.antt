@@ -1,6 +1,6 @@
 -- What the plain and the guarded walk take at a place, and the guarded listing.
 use Prim.Native.Nat.{ℕ, suc, _+_, _*_, _-_, _≤_, _<_, min}
-use native.Mathlib.Nat.{sub-zero, lt-of-mul-lt-mul-right, mul-le-mul-right}
+use native.Mathlib.Nat.{lt-of-mul-lt-mul-right, mul-le-mul-right}
 use native.Mathlib.Omega.{arith}
 use mathlib.Core.Path.{_≡_, refl, sym, ap, _∙_}
 use mathlib.Core.List.{List, Memᴰ·cast}
@@ -10,7 +10,7 @@ use lib.ListN.{length, getD, take, drop, length-take, length-drop}
 use Rattle.component.specs.Component.{Component, span, judge, startsWithMagic, magic}
 use Rattle.component.proofs.Judging.{judge-fits, judge-magic, judge-quiet, window}
 use Rattle.number.proofs.SameBytes.{eq-true}
-use Rattle.walk.specs.Walk.{placesBelow, places, carries, buried, plain, unless, guarded, listing, picked, allPlaces, allFrom}
+use Rattle.walk.specs.Walk.{placesBelow, places, carries, buried, plain, unless, guarded, listing, picked, allPlaces}
 use Rattle.walk.proofs.Places.{Place, below-ge, below-lt, gap, mem-places, places-mem, any-false, none-any}
 use Rattle.walk.proofs.Steps.{Fits, Exclusive, listing-all}
 
@@ -100,11 +100,6 @@ module _ (r : List ℕ) (a : ℕ) (pos : 0 < a) where
   pub guarded-exclusive : Exclusive (guarded r a) r a pos
   guarded-exclusive p h pl e q ql lt lt′ = guarded-none q (buried-false p (span h) pl (guarded-plain p h e .1) q ql lt lt′)
 
-  -- The guarded listing has every component that may be taken, whatever stands before it.
-  pub guarded-listing : listing (guarded r a) r a ≡ allFrom (guarded r a) r a 0
-  guarded-listing = listing-all (guarded r a) r a pos guarded-fits guarded-exclusive
-
-  -- The guarded listing has what may be taken at each place, in the places' order.
+  -- The guarded listing has every component that may be taken, whatever stands before it, in the places' order.
   pub guarded-context-free : listing (guarded r a) r a ≡ picked (guarded r a) (allPlaces r a)
-  unfolding allFrom
-  guarded-context-free = guarded-listing ∙ rw sub-zero
+  guarded-context-free = listing-all (guarded r a) r a pos guarded-fits guarded-exclusive

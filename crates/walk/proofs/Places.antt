@@ -1,6 +1,6 @@
 -- Places, counted and rounded to; tests over lists.
 use Prim.Native.Nat.{ℕ, zero, suc, _+_, _*_, _-_, _≤_, _<_}
-use native.Mathlib.Nat.{div-add-mod', mod-lt, lt-of-mul-lt-mul-right, mul-le-mul-right, eq-of-mul-eq-mul-right}
+use native.Mathlib.Nat.{div-zero, div-add-mod', mod-lt, lt-of-mul-lt-mul-right, mul-le-mul-right, eq-of-mul-eq-mul-right}
 use native.Mathlib.Omega.{arith}
 use native.Mathlib.Decide.{decLe, decLt}
 use mathlib.Core.Path.{_≡_, refl}
@@ -12,6 +12,11 @@ use Rattle.walk.specs.Walk.{placesBelow, places}
 
 abbrev pub Place : ℕ → ℕ → Type 0
 Place a p = (i : ℕ) × (p ≡ i * a)
+
+-- An alignment of 0 has no places.
+pub no-places : (n : ℕ) → placesBelow 0 n ≡ 0
+unfolding placesBelow
+no-places n = div-zero (n + 0)
 
 module _ (a : ℕ) (pos : 0 < a) where
   pub below-ge : (n : ℕ) → n ≤ placesBelow a n * a

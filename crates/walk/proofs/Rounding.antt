@@ -1,11 +1,37 @@
--- The rounding to places, stated for an alignment of 2^k.
-use Prim.Native.Nat.{ℕ, _+_, _*_, _/_, _%_, _^_, _≤_}
-use native.Mathlib.Nat.{mul-mod-left, div-add-mod'}
+-- The rounding to places: by the rest that a number leaves, and stated for an alignment of 2^k.
+use Prim.Native.Nat.{ℕ, suc, _+_, _*_, _-_, _/_, _%_, _^_, _≤_, _<_, min}
+use native.Mathlib.Nat.{mul-mod-left, div-add-mod', mod-lt, min-eq-right}
 use native.Mathlib.Omega.{arith}
-use mathlib.Core.Path.{_≡_}
+use mathlib.Core.Path.{_≡_, sym}
+use mathlib.Core.List.{List}
+use lib.ListN.{length}
 use lib.Pow.{pow-pos}
-use Rattle.walk.specs.Walk.{placesBelow}
-use Rattle.walk.proofs.Places.{below-ge, below-least}
+use Rattle.walk.specs.Walk.{placesBelow, onward}
+use Rattle.walk.proofs.Places.{no-places, below-ge, below-least, below-unique}
+
+-- The first place at or after n, by the rest that n leaves.
+
+pub onward-place : (r : List ℕ) (a n : ℕ) → 0 < a → n ≤ length r → n % a ≡ 0 → n ≡ onward r a n
+unfolding onward
+onward-place r a n pos h e = let q : placesBelow a n ≡ n / a = below-unique a pos n (n / a) (omega (arith, div-add-mod' n a)) (omega (arith, div-add-mod' n a)) in
+    rw q (omega (arith, div-add-mod' n a))
+
+pub onward-between : (r : List ℕ) (a n : ℕ) → 0 < a → (n % a ≡ 0 → ⊥) → min (n + (a - n % a)) (length r) ≡ onward r a n
+unfolding onward
+onward-between r a n pos e =
+    let l : n % a < a = mod-lt n pos in
+    let d : n / a * a + n % a ≡ n = div-add-mod' n a in
+    let q : placesBelow a n ≡ suc (n / a) = below-unique a pos n (suc (n / a)) (omega arith) (omega arith) in
+    let m : n + (a - n % a) ≡ suc (n / a) * a = omega arith in
+    rw (q, m)
+
+pub onward-none : (r : List ℕ) (a n : ℕ) → a ≡ 0 → 0 ≡ onward r a n
+unfolding onward
+onward-none r a n e = rw (e, no-places n) (omega arith)
+
+pub onward-past : (r : List ℕ) (a n : ℕ) → 0 < a → length r ≤ n → length r ≡ onward r a n
+unfolding onward
+onward-past r a n pos h = let g : n ≤ placesBelow a n * a = below-ge a pos n in sym (min-eq-right (omega arith))
 
 -- q is the first multiple of a at or after n.
 pub record Rounded (a n q : ℕ) : Type 0 where

@@ -1,53 +1,30 @@
 -- A step by way of the hunt, for either walk: g tells the guarded one.
-use Prim.Native.Nat.{ℕ, suc, _+_, _*_, _-_, _/_, _%_, _≤_, _<_, min}
-use native.Mathlib.Nat.{div-add-mod', mod-lt, min-eq-right}
+use Prim.Native.Nat.{ℕ, _+_, _-_, _≤_, _<_}
 use native.Mathlib.Omega.{arith}
 use native.Mathlib.Decide.{decLt}
 use mathlib.Core.Path.{_≡_, refl, sym, ap, subst, _∙_}
 use mathlib.Core.List.{List}
 use mathlib.Core.Bool.{Bool, true, false, cond}
 use mathlib.Core.Option.{some, none}
-use lib.ListN.{length, drop}
+use lib.ListN.{length, take, drop}
 use borrow.Author.Tests.{lt-ltb, le-ltb}
-use Rattle.component.specs.Component.{Component, span, judge, judged, headerOf}
+use Rattle.component.specs.Component.{Component, span, fields, judge, judged, headerOf}
 use Rattle.component.specs.declared.Header.{Header}
+use Rattle.component.specs.declared.Judged.{Judged}
 use Rattle.component.specs.declared.Judged.the-variants.{WellFormed}
-use Rattle.component.proofs.Judging.{judge-fits, judged-some}
-use Rattle.walk.specs.Walk.{Pick, placesBelow, carries, nextMagic, buried, plain, unless, guarded, pickOf, first, step, onward, told}
+use Rattle.component.proofs.Judging.{judge-fits, judge-fields, judged-some}
+use Rattle.number.proofs.Splice.{rest}
+use Rattle.walk.specs.Walk.{Pick, carries, nextMagic, buried, plain, unless, guarded, pickOf, first, step, onward, told}
 use Rattle.walk.specs.declared.Step.the-variants.{Took}
-use Rattle.walk.proofs.Places.{below-ge, below-unique}
-use Rattle.walk.proofs.Hunting.{no-places, next-none, next-end, next-here, next-not, next-above, next-carries, by-places, buried-hunt}
+use Rattle.walk.proofs.Places.{no-places}
+use Rattle.walk.proofs.Hunting.{next-none, next-above, next-carries, over-quiet, quiet-all, buried-hunt}
 use Rattle.walk.proofs.Steps.{Fits, step-end, step-here, step-next}
-use Rattle.walk.proofs.Picks.{plain-fits, plain-none, guarded-none, guarded-fits}
-
--- The first place at or after n, by the rest that n leaves.
-
-pub onward-place : (r : List ℕ) (a n : ℕ) → 0 < a → n ≤ length r → n % a ≡ 0 → n ≡ onward r a n
-unfolding onward
-onward-place r a n pos h e = let q : placesBelow a n ≡ n / a = below-unique a pos n (n / a) (omega (arith, div-add-mod' n a)) (omega (arith, div-add-mod' n a)) in
-    rw q (omega (arith, div-add-mod' n a))
-
-pub onward-between : (r : List ℕ) (a n : ℕ) → 0 < a → (n % a ≡ 0 → ⊥) → min (n + (a - n % a)) (length r) ≡ onward r a n
-unfolding onward
-onward-between r a n pos e =
-    let l : n % a < a = mod-lt n pos in
-    let d : n / a * a + n % a ≡ n = div-add-mod' n a in
-    let q : placesBelow a n ≡ suc (n / a) = below-unique a pos n (suc (n / a)) (omega arith) (omega arith) in
-    let m : n + (a - n % a) ≡ suc (n / a) * a = omega arith in
-    rw (q, m)
-
-pub onward-none : (r : List ℕ) (a n : ℕ) → a ≡ 0 → 0 ≡ onward r a n
-unfolding onward
-onward-none r a n e = rw (e, no-places n) (omega arith)
-
-pub onward-past : (r : List ℕ) (a n : ℕ) → 0 < a → length r ≤ n → length r ≡ onward r a n
-unfolding onward
-onward-past r a n pos h = let g : n ≤ placesBelow a n * a = below-ge a pos n in sym (min-eq-right (omega arith))
+use Rattle.walk.proofs.Picks.{plain-fits, plain-none, guarded-none, guarded-of, guarded-fits}
 
 -- Without places nothing is taken.
-pub step-none : (pick : Pick) (r : List ℕ) (a n : ℕ) → a ≡ 0 → step pick r a n ≡ none
+pub step-no-places : (pick : Pick) (r : List ℕ) (a n : ℕ) → a ≡ 0 → step pick r a n ≡ none
 unfolding step first
-step-none pick r a n e = rw (e, no-places (length r - n))
+step-no-places pick r a n e = rw (e, no-places (length r - n))
 
 -- Nor is anything past the end.
 pub step-past : (pick : Pick) (r : List ℕ) (a n : ℕ) → length r ≤ n → step pick r a n ≡ none
@@ -55,7 +32,7 @@ step-past pick r a n h = go (decLt 0 a)
   where
     go : Dec (0 < a) → step pick r a n ≡ none
     go (yes pos) = step-end pick r a pos n h
-    go (no g) = step-none pick r a n (omega arith)
+    go (no g) = step-no-places pick r a n (omega arith)
 
 -- What a step from n comes to at p: the same, and p carries the magic if it lies in the region.
 pub record Hunted (g : Bool) (r : List ℕ) (a n p : ℕ) : Type 0 where
@@ -76,10 +53,6 @@ pick-buried : (r : List ℕ) (a p : ℕ) (c : Component) → judge (drop p r) �
 unfolding guarded unless
 pick-buried r a p c j b = rw (j, b)
 
-pick-open : (r : List ℕ) (a p : ℕ) (c : Component) → judge (drop p r) ≡ some c → buried r a p (span c) ≡ false → guarded r a p ≡ some c
-unfolding guarded unless
-pick-open r a p c j b = rw (j, b)
-
 module _ (g : Bool) (r : List ℕ) (a : ℕ) where
   pub pick-quiet : 0 < a → (p : ℕ) → carries r p ≡ false → pickOf g r a p ≡ none
   pick-quiet pos p e = go g
@@ -97,17 +70,15 @@ module _ (g : Bool) (r : List ℕ) (a : ℕ) where
 
   module _ (pos : 0 < a) where
     -- Places without the magic are passed over.
+    step-quiet : (n : ℕ) → n < length r → carries r n ≡ false → step (pickOf g r a) r a n ≡ step (pickOf g r a) r a (n + a)
+    step-quiet n l y = step-next (pickOf g r a) r a pos n l (pick-quiet pos n y)
+
     step-hunt : (b n : ℕ) → b ≤ length r → nextMagic r a n b < b → step (pickOf g r a) r a n ≡ step (pickOf g r a) r a (nextMagic r a n b)
-    step-hunt b n h = by-places r a pos b (λ n. nextMagic r a n b < b → step (pickOf g r a) r a n ≡ step (pickOf g r a) r a (nextMagic r a n b))
-        (λ n l k. absurd (omega (arith, k, next-end r a pos n b l)))
-        (λ n l y k. rw (next-here r a pos n b l y))
-        (λ n l y ih k. step-next (pickOf g r a) r a pos n (omega arith) (pick-quiet pos n y) ∙ ih (rw (next-not r a pos n b l y) at k) ∙ ap (step (pickOf g r a) r a) (sym (next-not r a pos n b l y))) n
+    step-hunt b n h = over-quiet r a pos (step (pickOf g r a) r a) b (λ n l y. step-quiet n (omega arith) y) n
 
     step-hunt-end : (n : ℕ) → step (pickOf g r a) r a n ≡ step (pickOf g r a) r a (nextMagic r a n (length r))
-    step-hunt-end n = by-places r a pos (length r) (λ n. step (pickOf g r a) r a n ≡ step (pickOf g r a) r a (nextMagic r a n (length r)))
-        (λ n l. rw (next-end r a pos n (length r) l) (step-end (pickOf g r a) r a pos n l ∙ sym (step-end (pickOf g r a) r a pos (length r) (omega arith))))
-        (λ n l y. rw (next-here r a pos n (length r) l y))
-        (λ n l y ih. step-next (pickOf g r a) r a pos n l (pick-quiet pos n y) ∙ ih ∙ ap (step (pickOf g r a) r a) (sym (next-not r a pos n (length r) l y))) n
+    step-hunt-end n = quiet-all r a pos (step (pickOf g r a) r a) (length r) step-quiet
+        (λ n l. step-end (pickOf g r a) r a pos n l ∙ sym (step-end (pickOf g r a) r a pos (length r) (omega arith))) n
 
   -- From the number that a step begins with to the first place with the magic.
   pub hunted : (n p : ℕ) → p ≡ nextMagic r a n (length r) → Hunted g r a n p
@@ -118,7 +89,7 @@ module _ (g : Bool) (r : List ℕ) (a : ℕ) where
       go (no h) =
           let z : a ≡ 0 = omega arith in
           record {
-            same = step-none (pickOf g r a) r a n z ∙ sym (step-none (pickOf g r a) r a (nextMagic r a n (length r)) z);
+            same = step-no-places (pickOf g r a) r a n z ∙ sym (step-no-places (pickOf g r a) r a (nextMagic r a n (length r)) z);
             found = λ l. absurd (omega (arith, l, next-none r a n (length r) z));
           }
 
@@ -155,9 +126,14 @@ module _ (g : Bool) (r : List ℕ) (a : ℕ) where
           go false k′ = unfold plain in j
           go true k′ =
               let m : e ≤ nextMagic r a (p + a) e = omega (arith, k′) in
-              pick-open r a p c j (buried-hunt r a pos p (span c) ∙ rw (← f) (le-ltb _ _ m))
+              guarded-of r a pos p c (unfold plain in j) (buried-hunt r a pos p (span c) ∙ rw (← f) (le-ltb _ _ m))
 
--- The same by what the judge answered, the header h.
+-- What the judge of the fields answered on all bytes from p on, where the magic stands, is what the judge answers.
+pub fields-said : (r : List ℕ) (p : ℕ) {j : Judged} → carries r p ≡ true → j ≡ judged (fields (take (length r - p) (drop p r))) → judged (judge (drop p r)) ≡ j
+unfolding carries
+fields-said r p m e = ap judged (judge-fields (drop p r) m) ∙ sym (rw rest at e)
+
+-- The same as above by what the judge answered, the header h.
 
 pub header-fits : (r : List ℕ) (p : ℕ) (h : Header) → judged (judge (drop p r)) ≡ WellFormed h → (0 < h .offset) × (p + (h .offset + h .len) ≤ length r)
 unfolding plain

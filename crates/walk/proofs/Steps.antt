@@ -1,6 +1,6 @@
 -- What a walk's steps come to.
 use Prim.Native.Nat.{ℕ, zero, suc, _+_, _*_, _-_, _≤_, _<_, min}
-use native.Mathlib.Nat.{lt-of-mul-lt-mul-right}
+use native.Mathlib.Nat.{sub-zero, lt-of-mul-lt-mul-right}
 use native.Mathlib.Omega.{arith}
 use native.Mathlib.Decide.{decLe, decLt}
 use mathlib.Core.Path.{_≡_, refl, sym, ap, subst, _∙_}
@@ -9,7 +9,7 @@ use mathlib.Core.Logic.{_⊎_, inl, inr}
 use mathlib.Core.Option.{Option, some, none, Option·some-injective, Option·none-ne-some, Option·some-ne-none}
 use lib.ListN.{length}
 use Rattle.component.specs.Component.{Component, span}
-use Rattle.walk.specs.Walk.{Entry, Pick, end, placesBelow, places, orElse, first, onward, step, follow, steps, listing, listingFrom, prepend, picked, allFrom}
+use Rattle.walk.specs.Walk.{Entry, Pick, end, placesBelow, places, allPlaces, orElse, first, onward, step, follow, steps, listing, listingFrom, prepend, picked, allFrom}
 use Rattle.walk.proofs.Places.{Place, below-ge, below-lt, below-next, below-end, below-pos, gap}
 
 -- A listing ends where no component is left.
@@ -20,6 +20,23 @@ rest-none pick r a n e = go (length r)
     go : (k : ℕ) → steps pick r a k n ≡ []
     go zero = refl
     go (suc k) = rw e
+
+-- A number to step from.
+abbrev pub Stop : List ℕ → ℕ → ℕ → Type 0
+Stop r a n = Place a n ⊎ (length r ≤ n)
+
+pub onward-stop : (r : List ℕ) (a b : ℕ) → Stop r a (onward r a b)
+unfolding onward
+onward-stop r a b = go (decLe (placesBelow a b * a) (length r))
+  where
+    go : Dec (placesBelow a b * a ≤ length r) → Stop r a (min (placesBelow a b * a) (length r))
+    go (yes h) = inl (placesBelow a b, omega arith)
+    go (no g) = inr (omega arith)
+
+-- What lies neither past b nor past the region's end does not lie past the number to go on from after b.
+pub onward-far : (r : List ℕ) (a : ℕ) → 0 < a → (b n : ℕ) → n ≤ b → n ≤ length r → n ≤ onward r a b
+unfolding onward
+onward-far r a pos b n h k = omega (arith, below-ge a pos b)
 
 module _ (pick : Pick) (r : List ℕ) (a : ℕ) (pos : 0 < a) where
   pub allFrom-end : (n : ℕ) → length r ≤ n → allFrom pick r a n ≡ []
@@ -102,50 +119,34 @@ module _ (pick : Pick) (r : List ℕ) (a : ℕ) (pos : 0 < a) where
   abbrev pub Exclusive : Type 0
   Exclusive = (p : ℕ) (h : Component) → Place a p → pick p ≡ some h → (q : ℕ) → Place a q → p < q → q < p + span h → pick q ≡ none
 
-  -- A number to step from.
-  abbrev pub Stop : ℕ → Type 0
-  Stop n = Place a n ⊎ (length r ≤ n)
-
-  pub onward-stop : (b : ℕ) → Stop (onward r a b)
-  unfolding onward
-  onward-stop b = go (decLe (placesBelow a b * a) (length r))
-    where
-      go : Dec (placesBelow a b * a ≤ length r) → Stop (min (placesBelow a b * a) (length r))
-      go (yes h) = inl (placesBelow a b, omega arith)
-      go (no g) = inr (omega arith)
-
-  -- The number to go on from lies past the place, and past the span unless it is the region's end.
-  pub onward-far : (b n : ℕ) → n ≤ b → n ≤ length r → n ≤ onward r a b
-  unfolding onward
-  onward-far b n h k = omega (arith, below-ge a pos b)
-
-  first-place : (n : ℕ) (t : Entry) → Stop n → First n t → Place a (t .place)
+  first-place : (n : ℕ) (t : Entry) → Stop r a n → First n t → Place a (t .place)
   first-place n t (inl pl) f = (pl .0 + f .skipped, omega (arith, pl .1))
   first-place n t (inr h) f = absurd (omega (arith, f .at, f .inside))
 
-  pub steps-all : Fits → Exclusive → (k n : ℕ) → Stop n → length r - n ≤ k → steps pick r a k n ≡ allFrom pick r a n
+  pub steps-all : Fits → Exclusive → (k n : ℕ) → Stop r a n → length r - n ≤ k → steps pick r a k n ≡ allFrom pick r a n
   unfolding steps follow
   steps-all fits excl zero n s h = sym (allFrom-end n (omega arith))
   steps-all fits excl (suc k) n s h = go (step pick r a n) refl (λ m s′ h′. steps-all fits excl k m s′ h′)
     where
-      go : (o : Option Entry) → step pick r a n ≡ o → ((m : ℕ) → Stop m → length r - m ≤ k → steps pick r a k m ≡ allFrom pick r a m)
+      go : (o : Option Entry) → step pick r a n ≡ o → ((m : ℕ) → Stop r a m → length r - m ≤ k → steps pick r a k m ≡ allFrom pick r a m)
           → follow (λ m. steps pick r a k m) (λ t. onward r a (end t)) o ≡ allFrom pick r a n
       go none e ih = sym (step-none n e)
       go (some t) e ih =
           let f : First n t = step-some n t e in
           let pl : Place a (t .place) = first-place n t s f in
           let fit : (0 < span (t .component)) × (end t ≤ length r) = fits (t .place) (t .component) (f .taken) in
-          let far : suc (t .place) ≤ onward r a (end t) = onward-far (end t) (suc (t .place)) (omega arith) (omega arith) in
+          let far : suc (t .place) ≤ onward r a (end t) = onward-far r a pos (end t) (suc (t .place)) (omega arith) (omega arith) in
           let lt : pl .0 < placesBelow a (end t) = lt-of-mul-lt-mul-right a {m = pl .0} {n = placesBelow a (end t)} (omega (arith, below-ge a pos (end t), pl .1)) in
           ap (λ (l : List Entry). t ∷ l)
-          (ih (onward r a (end t)) (onward-stop (end t)) (omega (arith, f .at))
+          (ih (onward r a (end t)) (onward-stop r a (end t)) (omega (arith, f .at))
           ∙ sym (skip (placesBelow a (end t) - suc (pl .0)) (t .place + a) (end t) (suc (pl .0), omega (arith, pl .1)) (gap a (t .place) (pl .0) (placesBelow a (end t)) (pl .1) lt)
           (λ x px le x<. excl (t .place) (t .component) pl (f .taken) x px (omega arith) x<)))
           ∙ sym (f .rest)
 
-  pub listing-all : Fits → Exclusive → listing pick r a ≡ allFrom pick r a 0
-  unfolding listingFrom
-  listing-all fits excl = steps-all fits excl (length r) 0 (inl (0, omega arith)) (omega arith)
+  -- Then the listing has what may be taken at each place, in the places' order.
+  pub listing-all : Fits → Exclusive → listing pick r a ≡ picked pick (allPlaces r a)
+  unfolding listingFrom allFrom
+  listing-all fits excl = steps-all fits excl (length r) 0 (inl (0, omega arith)) (omega arith) ∙ rw sub-zero
 
   -- What a listing has: taken at a place, not before its start.
   pub record Listed (n : ℕ) (t : Entry) : Type 0 where
@@ -154,13 +155,13 @@ module _ (pick : Pick) (r : List ℕ) (a : ℕ) (pos : 0 < a) where
     pub inside : t .place < length r
     pub taken : pick (t .place) ≡ some (t .component)
 
-  pub mem-steps : Fits → (k n : ℕ) → Stop n → (t : Entry) → List·Memᴰ t (steps pick r a k n) → Listed n t
+  pub mem-steps : Fits → (k n : ℕ) → Stop r a n → (t : Entry) → List·Memᴰ t (steps pick r a k n) → Listed n t
   unfolding steps follow
   mem-steps fits zero n s t m = absurd (List·Memᴰ·not-nil m)
   mem-steps fits (suc k) n s t m = go (step pick r a n) refl m (λ n′ s′ m′. mem-steps fits k n′ s′ t m′)
     where
       go : (o : Option Entry) → step pick r a n ≡ o → List·Memᴰ t (follow (λ m. steps pick r a k m) (λ t. onward r a (end t)) o)
-          → ((m : ℕ) → Stop m → List·Memᴰ t (steps pick r a k m) → Listed m t) → Listed n t
+          → ((m : ℕ) → Stop r a m → List·Memᴰ t (steps pick r a k m) → Listed m t) → Listed n t
       go none e m′ ih = absurd (List·Memᴰ·not-nil m′)
       go (some u) e m′ ih = by (List·Memᴰ·cases-cons m′)
         where
@@ -168,22 +169,22 @@ module _ (pick : Pick) (r : List ℕ) (a : ℕ) (pos : 0 < a) where
           f = step-some n u e
 
           far : suc (u .place) ≤ onward r a (end u)
-          far = onward-far (end u) (suc (u .place)) (omega (arith, fits (u .place) (u .component) (f .taken))) (f .inside)
+          far = onward-far r a pos (end u) (suc (u .place)) (omega (arith, fits (u .place) (u .component) (f .taken))) (f .inside)
 
           by : (t ≡ u) ⊎ List·Memᴰ t (steps pick r a k (onward r a (end u))) → Listed n t
           by (inl q) = rw q (record { from = omega (arith, f .at); at = first-place n u s f; inside = f .inside; taken = f .taken })
-          by (inr m″) = let l = ih (onward r a (end u)) (onward-stop (end u)) m″ in
+          by (inr m″) = let l = ih (onward r a (end u)) (onward-stop r a (end u)) m″ in
               record { from = omega (arith, f .at, l .from, far); at = l .at; inside = l .inside; taken = l .taken }
 
   -- Of two that a listing has, the span of the first ends before the second.
-  pub apart : Fits → (k n : ℕ) → Stop n → (t u : Entry) → List·Memᴰ t (steps pick r a k n) → List·Memᴰ u (steps pick r a k n) → t .place < u .place → end t ≤ u .place
+  pub apart : Fits → (k n : ℕ) → Stop r a n → (t u : Entry) → List·Memᴰ t (steps pick r a k n) → List·Memᴰ u (steps pick r a k n) → t .place < u .place → end t ≤ u .place
   unfolding steps follow
   apart fits zero n s t u m m′ lt = absurd (List·Memᴰ·not-nil m)
   apart fits (suc k) n s t u m m′ lt = go (step pick r a n) refl m m′ (λ n′ s′ l l′. apart fits k n′ s′ t u l l′ lt)
     where
       go : (o : Option Entry) → step pick r a n ≡ o → List·Memᴰ t (follow (λ m. steps pick r a k m) (λ t. onward r a (end t)) o)
           → List·Memᴰ u (follow (λ m. steps pick r a k m) (λ t. onward r a (end t)) o)
-          → ((m : ℕ) → Stop m → List·Memᴰ t (steps pick r a k m) → List·Memᴰ u (steps pick r a k m) → end t ≤ u .place) → end t ≤ u .place
+          → ((m : ℕ) → Stop r a m → List·Memᴰ t (steps pick r a k m) → List·Memᴰ u (steps pick r a k m) → end t ≤ u .place) → end t ≤ u .place
       go none e l l′ ih = absurd (List·Memᴰ·not-nil l)
       go (some v) e l l′ ih = by (List·Memᴰ·cases-cons l) (List·Memᴰ·cases-cons l′)
         where
@@ -194,14 +195,14 @@ module _ (pick : Pick) (r : List ℕ) (a : ℕ) (pos : 0 < a) where
           fit = fits (v .place) (v .component) (f .taken)
 
           after : (w : Entry) → List·Memᴰ w (steps pick r a k (onward r a (end v))) → end v ≤ w .place
-          after w m″ = let l = mem-steps fits k (onward r a (end v)) (onward-stop (end v)) w m″ in
-              omega (arith, onward-far (end v) (end v) (omega arith) (fit .1), l .from)
+          after w m″ = let l = mem-steps fits k (onward r a (end v)) (onward-stop r a (end v)) w m″ in
+              omega (arith, onward-far r a pos (end v) (end v) (omega arith) (fit .1), l .from)
 
           by : (t ≡ v) ⊎ List·Memᴰ t (steps pick r a k (onward r a (end v))) → (u ≡ v) ⊎ List·Memᴰ u (steps pick r a k (onward r a (end v))) → end t ≤ u .place
           by (inl q) (inl q′) = absurd (omega (arith, ap (λ (w : Entry). w .place) q, ap (λ (w : Entry). w .place) q′))
           by (inl q) (inr m″) = rw q (after u m″)
           by (inr m″) (inl q′) = absurd (omega (arith, after t m″, fit .0, ap (λ (w : Entry). w .place) q′))
-          by (inr m₁) (inr m₂) = ih (onward r a (end v)) (onward-stop (end v)) m₁ m₂
+          by (inr m₁) (inr m₂) = ih (onward r a (end v)) (onward-stop r a (end v)) m₁ m₂
 
   pub mem-listing : Fits → (t : Entry) → List·Memᴰ t (listing pick r a) → Listed 0 t
   unfolding listingFrom
@@ -228,7 +229,7 @@ module _ (pick : Pick) (r : List ℕ) (a : ℕ) (pos : 0 < a) where
   onward-later : Fits → (n : ℕ) (t : Entry) → step pick r a n ≡ some t → (n < onward r a (end t)) × (n < length r)
   onward-later fits n t e =
       let f : First n t = step-some n t e in
-      let far : suc (t .place) ≤ onward r a (end t) = onward-far (end t) (suc (t .place)) (omega (arith, fits (t .place) (t .component) (f .taken))) (f .inside) in
+      let far : suc (t .place) ≤ onward r a (end t) = onward-far r a pos (end t) (suc (t .place)) (omega (arith, fits (t .place) (t .component) (f .taken))) (f .inside) in
       (omega (arith, f .at), omega (arith, f .at, f .inside))
 
   steps-enough : Fits → (k k′ n : ℕ) → length r - n ≤ k → length r - n ≤ k′ → steps pick r a k n ≡ steps pick r a k′ n

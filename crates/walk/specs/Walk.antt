@@ -49,6 +49,7 @@ Pick = ℕ → Option Component
 unfoldable pub plain : List ℕ → Pick
 plain r p = judge (drop p r)
 
+-- What was judged, unless it is bad.
 unfoldable pub unless : (Component → Bool) → Option Component → Option Component
 unless bad none = none
 unless bad (some c) = cond (bad c) none (some c)
@@ -66,6 +67,7 @@ pub record Entry : Type 0 where
 abbrev pub end : Entry → ℕ
 end t = t .place + span (t .component)
 
+-- What is picked at p, or else what comes later.
 unfoldable pub orElse : ℕ → Option Component → Option Entry → Option Entry
 orElse p none rest = rest
 orElse p (some c) rest = some (record { place = p; component = c })
@@ -87,6 +89,7 @@ onward r a n = min (placesBelow a n * a) (length r)
 abbrev pub next : List ℕ → ℕ → Entry → ℕ
 next r a t = onward r a (end t)
 
+-- What a step took, and what the steps after it take.
 unfoldable pub follow : (ℕ → List Entry) → (Entry → ℕ) → Option Entry → List Entry
 follow go after none = []
 follow go after (some t) = t ∷ go (after t)
@@ -110,12 +113,12 @@ plainListing r a = listing (plain r) r a
 abbrev pub guardedListing : List ℕ → ℕ → List Entry
 guardedListing r a = listing (guarded r a) r a
 
--- All that may be taken at some places, whatever was taken before.
-
+-- What is picked at p, before the rest.
 unfoldable pub prepend : ℕ → Option Component → List Entry → List Entry
 prepend p none rest = rest
 prepend p (some c) rest = record { place = p; component = c } ∷ rest
 
+-- All that may be taken at some places, whatever was taken before.
 unfoldable pub picked : Pick → List ℕ → List Entry
 picked pick [] = []
 picked pick (p ∷ ps) = let rest = picked pick ps in prepend p (pick p) rest

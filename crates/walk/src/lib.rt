@@ -65,6 +65,7 @@ pub fn next_magic(r: &[u8], align: usize, from: usize, below: usize) -> usize
     if stop <= from {
         return below;
     }
+    // Only one place is left. Else the alignment is less than the region is long, and the hunt's sums cannot overflow.
     if stop - from <= align {
         if component::starts_with_magic(&r[from..]) {
             return from;

@@ -1,64 +1,53 @@
 use Prim.Native.Nat.{_-_, _≤_}
 use mathlib.Core.Path.{_≡_, refl, sym, _∙_}
 use native.Mathlib.Omega.{arith}
-use lib.ListN.{take, drop, getD}
+use lib.ListN.{take, drop}
 use Rattle.number.specs.Lists.{any}
 use Rattle.strict.specs.Directory.{named}
-use Rattle.strict.proofs.Directories.{any-here, any-on, any-end, named-said}
+use Rattle.strict.proofs.Names.{any-here, any-on, any-end}
 use borrow.Author.Needs.{needs}
 use Rattle.strict.proofs.any_named.Statement.{statement}
 use Rattle.strict.proofs.any_named.Tie as tie
 
 abbrev Inv-loop : tie.InvT-loop
-Inv-loop r places lengths from to name k₀ k = (from ≤ k) × (any (named r name) (take (to - from) (drop from places)) ≡ any (named r name) (take (to - k) (drop k places)))
+Inv-loop r places digests from to name asked k₀ k = (from ≤ k) × (any (named r name) (take (to - from) (drop from places)) ≡ any (named r name) (take (to - k) (drop k places)))
 
 abbrev μ-loop : tie.MeasureT-loop
-μ-loop r places lengths from to name k₀ k = to - k
-
-loop-holds : tie.Need-loop-holds Inv-loop μ-loop
-loop-holds c = (omega arith, refl)
-
-mul-p : tie.Need-mul-p Inv-loop μ-loop
-mul-p c = search needs
-
-shared-slice-read-p : tie.Need-shared-slice-read-p Inv-loop μ-loop
-shared-slice-read-p c = search needs
-
-mul-m : tie.Need-mul-m Inv-loop μ-loop
-mul-m c = search needs
-
-shared-slice-read-m : tie.Need-shared-slice-read-m Inv-loop μ-loop
-shared-slice-read-m c = search needs
-
-rest-requires : tie.Need-rest-requires Inv-loop μ-loop
-rest-requires c κs = search needs
-
-part-requires : tie.Need-part-requires Inv-loop μ-loop
-part-requires c κs = search needs
-
-equal-requires : tie.Need-equal-requires Inv-loop μ-loop
-equal-requires c κs = search needs
-
--- the places where the paths begin
-abbrev loop : tie.After-equal Inv-loop μ-loop → tie.At-loop Inv-loop μ-loop
-loop c = c .before .before .before .before .before .before
+μ-loop r places digests from to name asked k₀ k = to - k
 
 abbrev start : tie.At-loop Inv-loop μ-loop → tie.Start Inv-loop μ-loop
 start c = c .before .before .before .before .before
 
--- what the comparison says of the component at the place k
-said : (c : tie.After-equal Inv-loop μ-loop) → named (start (loop c) .args .r .now) (start (loop c) .args .name .now) (getD (start (loop c) .args .places .now) (loop c .loop .k) 0) ≡ c .equal .result
-said c =
-    let l = loop c in
+loop-holds : tie.Need-loop-holds Inv-loop μ-loop
+loop-holds c = (omega arith, refl)
+
+mul-is-named : tie.Need-mul-is-named Inv-loop μ-loop
+mul-is-named c = search needs
+
+shared-slice-read-is-named : tie.Need-shared-slice-read-is-named Inv-loop μ-loop
+shared-slice-read-is-named c = search needs
+
+mul-is-named-2 : tie.Need-mul-is-named-2 Inv-loop μ-loop
+mul-is-named-2 c = search needs
+
+shared-slice-read-is-named-2 : tie.Need-shared-slice-read-is-named-2 Inv-loop μ-loop
+shared-slice-read-is-named-2 c = search needs
+
+is-named-requires : tie.Need-is-named-requires Inv-loop μ-loop
+is-named-requires c κs =
+    let l = c .before .before .before in
     let s = start l in
-    named-said (s .args .r .now) (s .args .name .now) _ (c .before .before .rest .ensures .0) (s .pre .3 .each (l .loop .k) (omega arith)) (c .before .part .ensures .0) (c .equal .ensures .0)
+    (s .pre .3 .each (l .loop .k) (omega arith), s .pre .4)
+
+-- the place where the paths begin
+abbrev loop : tie.After-is-named Inv-loop μ-loop → tie.At-loop Inv-loop μ-loop
+loop c = c .before .before .before .before
 
 returns : tie.Need-returns Inv-loop μ-loop
 returns c =
-    let e = c .before in
-    let l = loop e in
+    let l = loop (c .before) in
     let a = start l .args in
-    sym (l .loop .inv .1 ∙ any-here (named (a .r .now) (a .name .now)) (a .places .now) (l .loop .k) (a .to) (omega arith) (start l .pre .1) (said e ∙ c .if1 .taken))
+    sym (l .loop .inv .1 ∙ any-here (named (a .r .now) (a .name .now)) (a .places .now) (l .loop .k) (a .to) (omega arith) (start l .pre .1) (sym (c .before .is-named .ensures) ∙ c .if1 .taken))
 
 add-k : tie.Need-add-k Inv-loop μ-loop
 add-k c = search needs
@@ -68,10 +57,9 @@ loop-less c = search needs
 
 loop-again : tie.Need-loop-again Inv-loop μ-loop
 loop-again c =
-    let e = c .before in
-    let l = loop e in
+    let l = loop (c .before) in
     let a = start l .args in
-    (omega arith, l .loop .inv .1 ∙ any-on (named (a .r .now) (a .name .now)) (a .places .now) (l .loop .k) (a .to) (omega arith) (start l .pre .1) (said e ∙ c .if1 .left))
+    (omega arith, l .loop .inv .1 ∙ any-on (named (a .r .now) (a .name .now)) (a .places .now) (l .loop .k) (a .to) (omega arith) (start l .pre .1) (sym (c .before .is-named .ensures) ∙ c .if1 .left))
 
 returns-2 : tie.Need-returns-2 Inv-loop μ-loop
 returns-2 c =
@@ -86,13 +74,11 @@ any-named-spec =
     Inv-loop
     μ-loop
     loop-holds
-    mul-p
-    shared-slice-read-p
-    mul-m
-    shared-slice-read-m
-    rest-requires
-    part-requires
-    equal-requires
+    mul-is-named
+    shared-slice-read-is-named
+    mul-is-named-2
+    shared-slice-read-is-named-2
+    is-named-requires
     returns
     add-k
     loop-less

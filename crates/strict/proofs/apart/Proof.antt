@@ -4,22 +4,28 @@ use mathlib.Core.List.{List}
 use native.Mathlib.Nat.{sub-zero}
 use native.Mathlib.Omega.{arith}
 use lib.ListN.{take, drop, getD}
-use Rattle.component.specs.Component.{judge, nameOf}
 use Rattle.number.specs.Lists.{any}
-use Rattle.strict.specs.Directory.{named, apartAt}
-use Rattle.strict.proofs.Directories.{apart-not, apart-on, apart-end, name-said}
+use Rattle.strict.specs.Directory.{nameAt, digestOf, named, apartAt}
+use Rattle.strict.proofs.Names.{apart-not, apart-on, apart-end}
 use borrow.Author.Needs.{needs}
 use Rattle.strict.proofs.apart.Statement.{statement}
 use Rattle.strict.proofs.apart.Tie as tie
 
 abbrev Inv-loop : tie.InvT-loop
-Inv-loop r places n lengths i₀ i = apartAt r (take n places) ≡ apartAt r (take (n - i) (drop i places))
+Inv-loop r places n digests i₀ i = apartAt r (take n places) ≡ apartAt r (take (n - i) (drop i places))
 
 abbrev μ-loop : tie.MeasureT-loop
-μ-loop r places n lengths i₀ i = n - i
+μ-loop r places n digests i₀ i = n - i
 
-name-lengths-requires : tie.Need-name-lengths-requires Inv-loop μ-loop
-name-lengths-requires c κs = search needs
+-- the places where the paths begin
+abbrev start : tie.At-loop Inv-loop μ-loop → tie.Start Inv-loop μ-loop
+start c = c .before .before .before .before
+
+abbrev loop : tie.After-name-at Inv-loop μ-loop → tie.At-loop Inv-loop μ-loop
+loop c = c .before .before .before .before
+
+name-digests-requires : tie.Need-name-digests-requires Inv-loop μ-loop
+name-digests-requires c κs = search needs
 
 loop-holds : tie.Need-loop-holds Inv-loop μ-loop
 loop-holds c = rw sub-zero
@@ -30,17 +36,11 @@ mul-p c = search needs
 shared-slice-read-p : tie.Need-shared-slice-read-p Inv-loop μ-loop
 shared-slice-read-p c = search needs
 
-mul-m : tie.Need-mul-m Inv-loop μ-loop
-mul-m c = search needs
+mul-asked : tie.Need-mul-asked Inv-loop μ-loop
+mul-asked c = search needs
 
-array-read-m : tie.Need-array-read-m Inv-loop μ-loop
-array-read-m c = search needs
-
-rest-requires : tie.Need-rest-requires Inv-loop μ-loop
-rest-requires c κs = search needs
-
-part-requires : tie.Need-part-requires Inv-loop μ-loop
-part-requires c κs = search needs
+array-read-asked : tie.Need-array-read-asked Inv-loop μ-loop
+array-read-asked c = search needs
 
 slice-aggregate-any-named : tie.Need-slice-aggregate-any-named Inv-loop μ-loop
 slice-aggregate-any-named c = search needs
@@ -48,31 +48,30 @@ slice-aggregate-any-named c = search needs
 add-any-named : tie.Need-add-any-named Inv-loop μ-loop
 add-any-named c = search needs
 
+name-at-requires : tie.Need-name-at-requires Inv-loop μ-loop
+name-at-requires c κs = search needs
+
 any-named-requires : tie.Need-any-named-requires Inv-loop μ-loop
-any-named-requires c κs = search needs
-
--- the places where the paths begin
-abbrev loop : tie.After-any-named Inv-loop μ-loop → tie.At-loop Inv-loop μ-loop
-loop c = c .before .before .before .before .before .before
-
-abbrev start : tie.At-loop Inv-loop μ-loop → tie.Start Inv-loop μ-loop
-start c = c .before .before .before .before
+any-named-requires c κs =
+    let l = loop c in
+    let s = start l in
+    let d = l .before .name-digests .ensures in
+    (omega arith, s .pre .0, s .pre .1, d, d .each (l .loop .i) (omega arith) ∙ sym (ap digestOf (c .name-at .ensures)))
 
 -- what the search says of the components after the place i
 said : (c : tie.After-any-named Inv-loop μ-loop) →
-    let l = loop c in
+    let l = loop (c .before) in
     let a = start l .args in
-    any (named (a .r .now) (nameOf (judge (drop (getD (a .places .now) (l .loop .i) 0) (a .r .now))))) (take (a .n - (l .loop .i + 1)) (drop (l .loop .i + 1) (a .places .now))) ≡ c .any-named .result
+    any (named (a .r .now) (nameAt (a .r .now) (getD (a .places .now) (l .loop .i) 0))) (take (a .n - (l .loop .i + 1)) (drop (l .loop .i + 1) (a .places .now))) ≡ c .any-named .result
 said c =
-    let l = loop c in
+    let l = loop (c .before) in
     let a = start l .args in
-    let n = name-said (a .r .now) (getD (a .places .now) (l .loop .i) 0) (c .before .before .before .rest .ensures .0) (l .before .name-lengths .ensures .each (l .loop .i) (omega arith)) (c .before .before .part .ensures .0) in
-    sym (c .any-named .ensures ∙ ap (λ (x : List ℕ). any (named (a .r .now) x) (take (a .n - (l .loop .i + 1)) (drop (l .loop .i + 1) (a .places .now)))) n)
+    sym (c .any-named .ensures ∙ ap (λ (x : List ℕ). any (named (a .r .now) x) (take (a .n - (l .loop .i + 1)) (drop (l .loop .i + 1) (a .places .now)))) (c .before .name-at .ensures))
 
 returns : tie.Need-returns Inv-loop μ-loop
 returns c =
     let e = c .before in
-    let l = loop e in
+    let l = loop (e .before) in
     let a = start l .args in
     sym (l .loop .inv ∙ apart-not (a .r .now) (a .places .now) (l .loop .i) (a .n) (omega arith) (start l .pre .0) (said e ∙ c .if1 .taken))
 
@@ -85,7 +84,7 @@ loop-less c = search needs
 loop-again : tie.Need-loop-again Inv-loop μ-loop
 loop-again c =
     let e = c .before in
-    let l = loop e in
+    let l = loop (e .before) in
     let a = start l .args in
     l .loop .inv ∙ apart-on (a .r .now) (a .places .now) (l .loop .i) (a .n) (omega arith) (start l .pre .0) (said e ∙ c .if1 .left)
 
@@ -101,16 +100,15 @@ apart-spec =
     (tie.spec
     Inv-loop
     μ-loop
-    name-lengths-requires
+    name-digests-requires
     loop-holds
     mul-p
     shared-slice-read-p
-    mul-m
-    array-read-m
-    rest-requires
-    part-requires
+    mul-asked
+    array-read-asked
     slice-aggregate-any-named
     add-any-named
+    name-at-requires
     any-named-requires
     returns
     add-i

@@ -1,15 +1,12 @@
-use Rattle.strict.specs.Strict.{refused}
 use Prim.Native.Nat.{_+_, _-_, _≤_, _<_}
 use mathlib.Core.Path.{_≡_, sym, ap, _∙_}
 use mathlib.Core.Bool.{true≢false, false≢true}
 use native.Mathlib.Omega.{arith}
 use lib.ListN.{length, drop}
-use Rattle.number.proofs.Splice.{rest}
 use Rattle.component.specs.Component.{judge, judged}
 use Rattle.component.specs.declared.Judged.the-variants.{WellFormed}
-use Rattle.component.proofs.Judging.{judge-fields}
-use Rattle.walk.specs.Walk.{carries}
-use Rattle.walk.proofs.Stepping.{header-fits}
+use Rattle.walk.proofs.Stepping.{fields-said, header-fits}
+use Rattle.strict.specs.Strict.{refused}
 use Rattle.strict.specs.Directory.{noPlaces}
 use Rattle.strict.proofs.Passes.{Passing, pass-start, pass-few, pass-end, pass-ill, pass-buried, pass-on, pass-later}
 use borrow.Author.Needs.{needs}
@@ -55,11 +52,7 @@ inside c = c .before .before .loop-test .taken
 
 -- what the judge says of the part from p on
 said : (c : tie.After-fields Inv-loop μ-loop) → judged (judge (drop (loop c .loop .p) (start (loop c) .args .r .now))) ≡ c .fields .result
-unfolding carries
-said c =
-    let l = loop c in
-    let r = start l .args .r .now in
-    ap judged (judge-fields (drop (l .loop .p) r) (l .loop .inv .checked .found (inside c) .2)) ∙ sym (rw rest at (c .fields .ensures .0))
+said c = fields-said (start (loop c) .args .r .now) (loop c .loop .p) (loop c .loop .inv .checked .found (inside c) .2) (c .fields .ensures .0)
 
 header : (c : tie.After-j Inv-loop μ-loop) → judged (judge (drop (loop (c .before .before) .loop .p) (start (loop (c .before .before)) .args .r .now))) ≡ WellFormed (c .j .given .0 .0)
 header c = said (c .before .before) ∙ c .j .given .1

@@ -1,11 +1,8 @@
-use lib.ListN.{getD, length-set}
-use Prim.Native.Nat.{ℕ}
-use mathlib.Core.List.{List}
-use Prim.Native.Nat.{_+_, _-_, _≤_, _<_}
+use Prim.Native.Nat.{ℕ, _+_, _-_, _≤_, _<_}
 use mathlib.Core.Path.{_≡_, refl, ap, _∙_}
-use mathlib.Core.List.{_++_, map}
+use mathlib.Core.List.{List, _++_, map}
 use native.Mathlib.Omega.{arith}
-use lib.ListN.{length, take, drop, set}
+use lib.ListN.{length, take, drop, getD, set, length-set}
 use Rattle.strict.proofs.Directories.{told-at, told-next}
 use borrow.Author.Needs.{needs}
 use Rattle.strict.proofs.told.Statement.{statement}

@@ -3,7 +3,7 @@ use mathlib.Core.Path.{refl, sym, _∙_}
 use native.Mathlib.Omega.{arith}
 use native.Mathlib.Nat.{mod-lt, min-eq-left, min-eq-right}
 use lib.ListN.{length}
-use Rattle.walk.proofs.Stepping.{onward-none, onward-past, onward-place, onward-between}
+use Rattle.walk.proofs.Rounding.{onward-none, onward-past, onward-place, onward-between}
 use borrow.Author.Needs.{needs}
 use Rattle.walk.proofs.onward.Statement.{statement}
 use Rattle.walk.proofs.onward.Tie as tie

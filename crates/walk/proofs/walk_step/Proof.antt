@@ -4,11 +4,10 @@ use native.Mathlib.Omega.{arith}
 use lib.ListN.{length, drop}
 use Rattle.component.specs.Component.{judge, judged}
 use Rattle.component.specs.declared.Judged.the-variants.{WellFormed}
-use Rattle.number.proofs.Splice.{rest}
-use Rattle.component.proofs.Judging.{judge-fields, judged-none}
-use Rattle.walk.specs.Walk.{carries, pickOf, told}
+use Rattle.component.proofs.Judging.{judged-none}
+use Rattle.walk.specs.Walk.{pickOf, told}
 use Rattle.walk.proofs.Hunting.{next-above}
-use Rattle.walk.proofs.Stepping.{Hunted, hunted, hunted-on, ill-formed, header-fits, went, took, step-past, guard-above}
+use Rattle.walk.proofs.Stepping.{Hunted, fields-said, hunted, hunted-on, ill-formed, header-fits, went, took, step-past, guard-above}
 use borrow.Author.Needs.{needs}
 use Rattle.walk.proofs.walk_step.Statement.{statement}
 use Rattle.walk.proofs.walk_step.Tie as tie
@@ -48,11 +47,7 @@ start c = c .before .before .before
 
 -- what the judge says of the part from p on
 said : (c : tie.After-fields Inv-loop μ-loop) → judged (judge (drop (loop c .loop .p) (start (loop c) .args .r .now))) ≡ c .fields .result
-unfolding carries
-said c =
-    let l = loop c in
-    let r = start l .args .r .now in
-    ap judged (judge-fields (drop (l .loop .p) r) (l .loop .inv .found (c .before .before .loop-test .taken) .1)) ∙ sym (rw rest at (c .fields .ensures .0))
+said c = fields-said (start (loop c) .args .r .now) (loop c .loop .p) (loop c .loop .inv .found (c .before .before .loop-test .taken) .1) (c .fields .ensures .0)
 
 header : (c : tie.After-j Inv-loop μ-loop) → judged (judge (drop (loop (c .before .before) .loop .p) (start (loop (c .before .before)) .args .r .now))) ≡ WellFormed (c .j .given .0 .0)
 header c = said (c .before .before) ∙ c .j .given .1
