@@ -3,8 +3,8 @@
 mod input;
 mod output;
 
+use area::Area;
 use editor::Edited;
-use fmap::Area;
 use fmap::Map;
 use input::Bytes;
 use input::Case;

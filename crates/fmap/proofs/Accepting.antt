@@ -1,27 +1,22 @@
 -- What the tests of an accepted map say, each as a fact.
-use Prim.Native.Nat.{ℕ, zero, suc, _+_, _-_, _≤_, _<_}
+use Prim.Native.Nat.{ℕ, zero, suc, _+_, _≤_, _<_}
 use native.Mathlib.Omega.{arith}
-use native.Mathlib.Decide.{decLt}
-use mathlib.Core.Path.{_≡_, refl, sym, ap, _∙_}
-use mathlib.Core.Logic.{_⊎_, inl, inr}
-use mathlib.Core.Bool.{Bool, true, false, cond, not, _||_, true≢false}
-use mathlib.Core.List.{List, [], _∷_, _++_}
-use lib.ListN.{length, drop, getD, replicate, List·getD-append, List·getD-eq-default, getD-replicate, length-replicate}
-use lib.Seq.{getD-append-add}
-use lib.Dec.{leb, eqb}
+use mathlib.Core.Path.{_≡_, refl, ap, _∙_}
+use mathlib.Core.Bool.{Bool, true, false, cond}
+use mathlib.Core.List.{List, [], _∷_}
+use lib.ListN.{length, drop, getD}
+use lib.Dec.{eqb}
 use borrow.Author.Tests.{leb-true, eqb-true, eqb-false}
-use Rattle.number.specs.Tests.{every, all}
-use Rattle.number.proofs.Passing.{passes}
-use Rattle.number.proofs.SameBytes.{eq-true, eq-refl}
-use Rattle.terms.specs.Refusals.{Test, test, firstFailed}
 use Rattle.number.specs.Lists.{any, noTwo}
-use Rattle.fmap.specs.Signatures.{signatures, firstOr}
-use Rattle.fmap.specs.Names.{isPrintable, printed, nameTests, nameFits, nameOf, nameAt}
-use Rattle.fmap.specs.Fmap.{nareas, mapEnd, areasOf, endOf, bears, sameName, extentFits, disjoint, holds, cross, ownName, ownTests, holdsMap, signatureTests, headerTests, areaTests, turnTests, wholeTests, testsAt, tests, unused, padded, mapOf, refused, answer, fmapBy, fmap}
-use Rattle.terms.specs.Refusals.{lengthFits}
-use Rattle.fmap.specs.declared.Area.{Area}
-use Rattle.fmap.specs.declared.Map.{Map}
+use Rattle.number.proofs.Padding.{padded-nth, padded-past}
+use Rattle.terms.specs.Refusals.{Test, test, firstFailed, lengthFits}
 use Rattle.terms.proofs.Orders.{all-passed, first-both}
+use Rattle.area.specs.declared.Area.{Area}
+use Rattle.area.specs.Names.{nameFits}
+use Rattle.area.specs.Area.{sameName, extentFits, cross, holdsMap, areaTests}
+use Rattle.fmap.specs.Signatures.{signatures, firstOr}
+use Rattle.fmap.specs.Fmap.{nareas, mapEnd, areasOf, most, signatureTests, headerTests, turnTests, wholeTests, testsAt, tests, unused, mapOf, refused, answer, fmapBy, fmap}
+use Rattle.fmap.specs.declared.Map.{Map}
 use Rattle.fmap.proofs.Counting.{areas-length}
 use Rattle.fmap.proofs.Reading.{not-refused}
 
@@ -96,99 +91,6 @@ each-area s l [] e k h = absurd (omega arith)
 each-area s l (a ∷ xs) e zero h = let b = first-both (areaTests s l a) (turnTests s l xs) refl e in (all-passed (areaTests s l a) refl (b .0) 0, all-passed (areaTests s l a) refl (b .0) 1)
 each-area s l (a ∷ xs) e (suc k) h = each-area s l xs (first-both (areaTests s l a) (turnTests s l xs) refl e .1) k (omega arith)
 
--- An area that is not empty and ends at l or before.
-pub record Inside (l : ℕ) (a : Area) : Type 0 where
-  pub some-byte : 0 < a .size
-  pub within : endOf a ≤ l
-
-pub extent : (l : ℕ) (a : Area) → extentFits l a ≡ true → Inside l a
-unfolding extentFits
-extent l a e = record { some-byte = leb-true 1 (a .size) (p 0); within = leb-true (endOf a) l (p 1) }
-  where
-    p : (k : ℕ) → getD (leb 1 (a .size) ∷ leb (endOf a) l ∷ []) k true ≡ true
-    p k = passes k (leb 1 (a .size) ∷ leb (endOf a) l ∷ []) e
-
--- A fit name: 1 to 31 bytes of 0x21 to 0x7E.
-pub record Fit (n : List ℕ) : Type 0 where
-  pub some-byte : 1 ≤ length n
-  pub most : length n ≤ 31
-  pub letters : all isPrintable n ≡ true
-
-all-printed : (f : List ℕ) → all isPrintable (printed f) ≡ true
-unfolding all printed
-all-printed [] = refl
-all-printed (b ∷ f) = go (isPrintable b) refl (all-printed f)
-  where
-    go : (t : Bool) → isPrintable b ≡ t → all isPrintable (printed f) ≡ true → all isPrintable (cond t (b ∷ printed f) []) ≡ true
-    go true q ih = rw q ih
-    go false q ih = refl
-
-pub fit : (f : List ℕ) → nameFits f ≡ true → Fit (nameOf f)
-unfolding nameOf nameFits nameTests
-fit f e = rw e (record { some-byte = leb-true 1 (length (printed f)) (p 0); most = leb-true (length (printed f)) 31 (p 1); letters = all-printed f })
-  where
-    p : (k : ℕ) → getD (nameTests f (printed f)) k true ≡ true
-    p k = passes k (nameTests f (printed f)) e
-
--- Two areas share no byte; one holds the other.
-
-abbrev pub Apart : Area → Area → Type 0
-Apart a b = (endOf a ≤ b .offset) ⊎ (endOf b ≤ a .offset)
-
-abbrev pub Holds : Area → Area → Type 0
-Holds a b = (a .offset ≤ b .offset) × (endOf b ≤ endOf a)
-
-abbrev pub ApartOrNested : Area → Area → Type 0
-ApartOrNested a b = Apart a b ⊎ (Holds a b ⊎ Holds b a)
-
-pub turned : (a b : Area) → ApartOrNested a b → ApartOrNested b a
-turned a b (inl (inl h)) = inl (inr h)
-turned a b (inl (inr h)) = inl (inl h)
-turned a b (inr (inl h)) = inr (inr h)
-turned a b (inr (inr h)) = inr (inl h)
-
-apart : (a b : Area) → disjoint a b ≡ true → Apart a b
-unfolding disjoint
-apart a b e = go (leb (endOf a) (b .offset)) refl e
-  where
-    go : (t : Bool) → leb (endOf a) (b .offset) ≡ t → t || leb (endOf b) (a .offset) ≡ true → Apart a b
-    go true q f = inl (leb-true _ _ q)
-    go false q f = inr (leb-true _ _ f)
-
-within : (a b : Area) → holds a b ≡ true → Holds a b
-unfolding holds
-within a b e = (leb-true (a .offset) (b .offset) (p 0), leb-true (endOf b) (endOf a) (p 1))
-  where
-    p : (k : ℕ) → getD (leb (a .offset) (b .offset) ∷ leb (endOf b) (endOf a) ∷ []) k true ≡ true
-    p k = passes k (leb (a .offset) (b .offset) ∷ leb (endOf b) (endOf a) ∷ []) e
-
-pub uncrossed : (a b : Area) → cross a b ≡ false → ApartOrNested a b
-unfolding cross
-uncrossed a b e = go (disjoint a b) refl (holds a b) refl (holds b a) refl e
-  where
-    go : (x : Bool) → disjoint a b ≡ x → (y : Bool) → holds a b ≡ y → (z : Bool) → holds b a ≡ z → every (not x ∷ not y ∷ not z ∷ []) ≡ false → ApartOrNested a b
-    go true p y q z r f = inl (apart a b p)
-    go false p true q z r f = inr (inl (within a b q))
-    go false p false q true r f = inr (inr (within b a r))
-    go false p false q false r f = absurd (true≢false f)
-
--- An area that is named FMAP and holds the whole map.
-pub record Own (i : List ℕ) (a : Area) : Type 0 where
-  pub name : nameAt i (a .name) ≡ ownName
-  pub from : a .offset ≤ placeOf i
-  pub end : mapEnd i (placeOf i) ≤ endOf a
-
-pub own : (i : List ℕ) (a : Area) → holdsMap i (placeOf i) (mapEnd i (placeOf i)) a ≡ true → Own i a
-unfolding holdsMap ownTests bears
-own i a e = record { name = eq-true _ _ (p 0); from = leb-true _ _ (p 1); end = leb-true _ _ (p 2) }
-  where
-    p : (k : ℕ) → getD (ownTests i (placeOf i) (mapEnd i (placeOf i)) a) k true ≡ true
-    p k = passes k (ownTests i (placeOf i) (mapEnd i (placeOf i)) a) e
-
-pub unnamed : (s : List ℕ) (a b : Area) → sameName s a b ≡ false → nameAt s (a .name) ≡ nameAt s (b .name) → ⊥
-unfolding bears
-unnamed s a b e q = true≢false (sym (rw q (eq-refl (nameAt s (b .name)))) ∙ e)
-
 abbrev pub areas : List ℕ → List Area
 areas i = areasOf i (placeOf i)
 
@@ -203,11 +105,15 @@ module _ (i : List ℕ) (ok : (fmap i) .number ≡ 0) where
   pub long : (k : ℕ) → k < (fmap i) .count → k < length (areas i)
   long k h = omega (arith, count-is, areas-length i (nareas i (placeOf i)) (placeOf i + 56))
 
-  pub area-is : (k : ℕ) → k < (fmap i) .count → areaOf (fmap i) k ≡ getD (areas i) k unused
-  unfolding mapOf padded
-  area-is k h = ap (λ (m : Map). areaOf m k) (accepted i ok .answer) ∙ List·getD-append (areas i) (replicate (256 - length (areas i)) unused) unused k (long k h)
+  pub area-is : (k : ℕ) → k < (fmap i) .count → areaOf (fmap i) k ≡ nth i k
+  unfolding mapOf
+  area-is k h = ap (λ (m : Map). areaOf m k) (accepted i ok .answer) ∙ padded-nth most unused (areas i) k (long k h)
 
-  pub each : (k : ℕ) → k < (fmap i) .count → (nameFits (drop ((getD (areas i) k unused) .name) i) ≡ true) × (extentFits (length i) (getD (areas i) k unused) ≡ true)
+  pub area-past : (k : ℕ) → (fmap i) .count ≤ k → areaOf (fmap i) k ≡ unused
+  unfolding mapOf
+  area-past k h = ap (λ (m : Map). areaOf m k) (accepted i ok .answer) ∙ padded-past most unused (areas i) k (omega (arith, count-is, areas-length i (nareas i (placeOf i)) (placeOf i + 56)))
+
+  pub each : (k : ℕ) → k < (fmap i) .count → (nameFits (drop ((nth i k) .name) i) ≡ true) × (extentFits (length i) (nth i k) ≡ true)
   each k h = each-area i (length i) (areas i) (accepted i ok .turn) k (long k h)
 
   pub wholes : (noTwo (sameName i) (areas i) ≡ true) × (noTwo cross (areas i) ≡ true) × (any (holdsMap i (placeOf i) (mapEnd i (placeOf i))) (areas i) ≡ true)
@@ -216,19 +122,3 @@ module _ (i : List ℕ) (ok : (fmap i) .number ≡ 0) where
     where
       p : (k : ℕ) → (getD (wholeTests i (placeOf i) (areas i)) k (test 1 true)) .passed ≡ true
       p = all-passed (wholeTests i (placeOf i) (areas i)) refl (accepted i ok .whole)
-
--- Past the areas every record is zero.
-
-padding : (n k : ℕ) → getD (replicate n unused) k unused ≡ unused
-padding n k = go (decLt k n)
-  where
-    go : Dec (k < n) → getD (replicate n unused) k unused ≡ unused
-    go (yes h) = getD-replicate n k unused unused h
-    go (no g) = List·getD-eq-default (replicate n unused) unused (rw (length-replicate {A = Area}) (omega arith))
-
-pub padded-past : (xs : List Area) (k : ℕ) → length xs ≤ k → getD (padded xs) k unused ≡ unused
-unfolding padded
-padded-past xs k h = go (k - length xs) (omega arith)
-  where
-    go : (j : ℕ) → k ≡ length xs + j → getD (xs ++ replicate (256 - length xs) unused) k unused ≡ unused
-    go j e = rw e (getD-append-add xs (replicate (256 - length xs) unused) j unused ∙ padding (256 - length xs) j)

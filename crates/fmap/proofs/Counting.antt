@@ -3,14 +3,15 @@ use Prim.Native.Nat.{ℕ, zero, suc, _+_, _*_, _-_, _≤_, _<_}
 use native.Mathlib.Omega.{arith}
 use mathlib.Core.Path.{_≡_, refl, sym, ap, _∙_}
 use mathlib.Core.Bool.{Bool, true, false}
-use mathlib.Core.List.{List, [], _∷_, _++_, append-assoc}
-use lib.ListN.{length, set, replicate, length-append}
-use lib.Seq.{set-at}
+use mathlib.Core.List.{List, [], _∷_, _++_}
+use lib.ListN.{length, set, replicate}
+use Rattle.number.specs.Lists.{any, noTwo, padded}
+use Rattle.number.proofs.Padding.{padded-none, padded-set}
 use Rattle.terms.specs.Refusals.{firstFailed}
-use Rattle.number.specs.Lists.{any, noTwo}
-use Rattle.fmap.specs.Fmap.{areaAt, areasAt, areaTests, turnTests, unused, padded}
-use Rattle.fmap.specs.declared.Area.{Area}
 use Rattle.terms.proofs.Orders.{numbered, first-here, first-later}
+use Rattle.area.specs.declared.Area.{Area}
+use Rattle.area.specs.Area.{areaTests}
+use Rattle.fmap.specs.Fmap.{areaAt, areasAt, turnTests, most, unused}
 
 areas-zero : (s : List ℕ) (p : ℕ) → areasAt s 0 p ≡ []
 unfolding areasAt
@@ -94,24 +95,14 @@ areas-last s (suc k) p =
     let e : p + 42 + 42 * k ≡ p + 42 * suc k = omega arith in
     ap (λ (l : List Area). areaAt s p ∷ l) (areas-last s k (p + 42) ∙ ap (λ (q : ℕ). areasAt s k (p + 42) ++ (areaAt s q ∷ [])) e)
 
--- A record stored after those that are used.
+-- The records, of which the first i are stored.
 
-padded-set : (l : List Area) (a : Area) → length l < 256 → set (padded l) (length l) a ≡ padded (l ++ (a ∷ []))
-unfolding padded
-padded-set l a h = go (255 - length l) (omega arith) (simp length-append (omega arith))
-  where
-    go : (m : ℕ) → 256 - length l ≡ suc m → 256 - length (l ++ (a ∷ [])) ≡ m
-        → set (l ++ replicate (256 - length l) unused) (length l) a ≡ (l ++ (a ∷ [])) ++ replicate (256 - length (l ++ (a ∷ []))) unused
-    go m e f = rw (e, f) (set-at l unused (replicate m unused) a (length l) refl ∙ sym (append-assoc l (a ∷ []) (replicate m unused)))
+pub padded-start : (s : List ℕ) (from : ℕ) {u : Area} → u ≡ unused → replicate most u ≡ padded most unused (areasAt s 0 from)
+padded-start s from e = padded-none most unused e ∙ ap (padded most unused) (sym (areas-zero s from))
 
-pub padded-next : (s : List ℕ) (from i p : ℕ) {l : List Area} {a : Area} → i < 256 → p ≡ from + 42 * i → l ≡ padded (areasAt s i from) → a ≡ areaAt s p
-    → set l i a ≡ padded (areasAt s (i + 1) from)
+pub padded-next : (s : List ℕ) (from i p : ℕ) {l : List Area} {a : Area} → i < most → p ≡ from + 42 * i → l ≡ padded most unused (areasAt s i from) → a ≡ areaAt s p
+    → set l i a ≡ padded most unused (areasAt s (i + 1) from)
 padded-next s from i p {l} {a} h q e f =
     let n : length (areasAt s i from) ≡ i = areas-length s i from in
     let o : i + 1 ≡ suc i = omega arith in
-    rw (e, f, q, o, areas-last s i from) (rw n at (padded-set (areasAt s i from) (areaAt s (from + 42 * i)) (omega arith)))
-
--- All records are unused at first.
-pub padded-none : (s : List ℕ) (from : ℕ) {u : Area} → u ≡ unused → replicate 256 u ≡ padded (areasAt s 0 from)
-unfolding padded areasAt
-padded-none s from e = rw e
+    rw (e, f, q, o, areas-last s i from) (rw n at (padded-set most unused (areasAt s i from) (areaAt s (from + 42 * i)) (omega arith)))

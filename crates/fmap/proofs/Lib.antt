@@ -1,8 +1,6 @@
 pub mod Signing
-pub mod Naming
 pub mod Counting
 pub mod Reading
-pub mod Listed
 pub mod Accepting
 pub mod Theorems
 pub mod Worked

@@ -8,25 +8,26 @@ use lib.ListN.{length, getD, replicate}
 use lib.Dec.{leb}
 use borrow.Author.Tests.{leb-true, lt-leb, le-leb, eq-eqb, ne-eqb}
 use Rattle.number.proofs.Passing.{passes}
-use Rattle.terms.specs.Refusals.{Test, test, firstFailed}
-use Rattle.number.specs.Lists.{any, noTwo}
+use Rattle.number.specs.Lists.{any, noTwo, padded}
+use Rattle.number.proofs.Padding.{padded-none}
+use Rattle.terms.specs.Refusals.{Test, test, firstFailed, lengthFits}
+use Rattle.terms.proofs.Orders.{numbered, all-passed, first-here, first-later, first-both}
+use Rattle.area.specs.declared.Area.{Area}
+use Rattle.area.specs.Area.{sameName, cross, holdsMap, areaTests}
 use Rattle.fmap.specs.Signatures.{signatures, found}
-use Rattle.fmap.specs.Fmap.{minor, base, nareas, mapEnd, areasAt, areasOf, sameName, cross, holdsMap, countFits, signatureTests, headerTests, areaTests, turnTests, wholeTests, testsAt, tests, unused, padded, mapOf, refused, answer, mapAt, fmapBy, fmap}
-use Rattle.terms.specs.Refusals.{lengthFits}
-use Rattle.fmap.specs.declared.Area.{Area}
+use Rattle.fmap.specs.Fmap.{minor, base, nareas, mapEnd, areasAt, areasOf, most, countFits, signatureTests, headerTests, turnTests, wholeTests, testsAt, tests, unused, mapOf, refused, answer, mapAt, fmapBy, fmap}
 use Rattle.fmap.specs.declared.Map.{Map}
 use Rattle.fmap.specs.declared.Found.the-variants.{Nothing, At, Several}
-use Rattle.terms.proofs.Orders.{numbered, all-passed, first-here, first-later, first-both}
 
 -- The map, field by field.
-pub map-fields : (s : List ℕ) (at : ℕ) {c m b : ℕ} {l : List Area} → c ≡ nareas s at → m ≡ minor s at → b ≡ base s at → l ≡ padded (areasAt s c (at + 56))
+pub map-fields : (s : List ℕ) (at : ℕ) {c m b : ℕ} {l : List Area} → c ≡ nareas s at → m ≡ minor s at → b ≡ base s at → l ≡ padded most unused (areasAt s c (at + 56))
     → record { number = 0; place = 0; minor = m; base = b; count = c; areas = l } ≡ mapOf s at
 unfolding mapOf
 map-fields s at e f g h = rw (h, e, f, g)
 
-pub refused-fields : (n : ℕ) {u : Area} → u ≡ unused → record { number = n; place = 0; minor = 0; base = 0; count = 0; areas = replicate 256 u } ≡ refused n
-unfolding refused padded
-refused-fields n e = rw e
+pub refused-fields : (n : ℕ) {u : Area} → u ≡ unused → record { number = n; place = 0; minor = 0; base = 0; count = 0; areas = replicate most u } ≡ refused n
+unfolding refused
+refused-fields n e = rw (padded-none most unused e)
 
 -- A header that is not refused: the map fits the bytes, and has 1 to 256 areas.
 
@@ -42,14 +43,14 @@ turn-numbered s l (a ∷ xs) = turn-numbered s l xs
 pub record Headed (s : List ℕ) (at l : ℕ) : Type 0 where
   pub within : mapEnd s at ≤ length s
   pub some-area : 1 ≤ nareas s at
-  pub most : nareas s at ≤ 256
+  pub no-more : nareas s at ≤ most
 
 pub headed : (s : List ℕ) (at l : ℕ) → firstFailed (headerTests s at l) ≡ 0 → Headed s at l
 unfolding headerTests countFits
 headed s at l e = record {
   within = leb-true _ _ (p 0);
-  some-area = leb-true 1 (nareas s at) (passes 0 (leb 1 (nareas s at) ∷ leb (nareas s at) 256 ∷ []) (p 3));
-  most = leb-true (nareas s at) 256 (passes 1 (leb 1 (nareas s at) ∷ leb (nareas s at) 256 ∷ []) (p 3));
+  some-area = leb-true 1 (nareas s at) (passes 0 (leb 1 (nareas s at) ∷ leb (nareas s at) most ∷ []) (p 3));
+  no-more = leb-true (nareas s at) most (passes 1 (leb 1 (nareas s at) ∷ leb (nareas s at) most ∷ []) (p 3));
 }
   where
     p : (k : ℕ) → (getD (headerTests s at l) k (test 1 true)) .passed ≡ true

@@ -1,11 +1,12 @@
--- Laws of the search for signatures.
-use Prim.Native.Nat.{ℕ, zero, suc, _+_, _-_, _≤_, _<_}
+-- Laws of the search for signatures, and of the list of those that it finds.
+use Prim.Native.Nat.{ℕ, zero, suc, _+_, _*_, _-_, _≤_, _<_}
 use native.Mathlib.Omega.{arith}
 use native.Mathlib.Decide.{decLe}
-use mathlib.Core.Path.{_≡_, refl, sym}
-use mathlib.Core.Bool.{Bool, true, false}
-use mathlib.Core.List.{List, [], _∷_}
-use lib.ListN.{length, take, drop, length-take}
+use mathlib.Core.Path.{_≡_, refl, sym, _∙_}
+use mathlib.Core.Logic.{_⊎_, inl, inr}
+use mathlib.Core.Bool.{Bool, true, false, true≢false}
+use mathlib.Core.List.{List, [], _∷_, List·Memᴰ, List·Memᴰ·head, List·Memᴰ·tail, List·Memᴰ·not-nil, List·Memᴰ·cases-cons, Memᴰ·cast}
+use lib.ListN.{length, take, drop, length-take, length-drop}
 use lib.Seq.{take-take}
 use Rattle.number.proofs.SameBytes.{eq-length}
 use Rattle.fmap.specs.declared.Found.the-variants.{Nothing, At, Several}
@@ -95,3 +96,48 @@ found-one s {p} {q} e h f l =
     let k : first s 0 < length s = omega arith in
     let j : length s ≤ first s (p + 64) = omega arith in
     rw (signs-first s 0 k, ← e, signs-none s (p + 64) j)
+
+-- The list of signatures from n on has those at n, n + 64 and so on, and nothing else.
+
+module _ (s : List ℕ) where
+  signed-long : (p : ℕ) → signedAt s p ≡ true → p + 8 ≤ length s
+  unfolding signedAt
+  signed-long p y = go (decLe (p + 8) (length s))
+    where
+      go : Dec (p + 8 ≤ length s) → p + 8 ≤ length s
+      go (yes h) = h
+      go (no g) = let e : length (drop p s) < 8 = rw length-drop (omega arith) in absurd (true≢false (sym y ∙ signed-short (drop p s) e))
+
+  pub signs-sound : (n x : ℕ) → List·Memᴰ x (signaturesFrom s n) → (j : ℕ) × (x ≡ n + 64 * j) × (signedAt s x ≡ true)
+  signs-sound n x = by-places s (λ n. List·Memᴰ x (signaturesFrom s n) → (j : ℕ) × (x ≡ n + 64 * j) × (signedAt s x ≡ true))
+      (λ p h m. absurd (List·Memᴰ·not-nil (rw (signs-end s p h) at m)))
+      (λ p h y ih m. here p y ih (List·Memᴰ·cases-cons (rw (signs-here s p h y) at m)))
+      (λ p h y ih m. later p (ih (rw (signs-not s p h y) at m))) n
+    where
+      later : (p : ℕ) → (j : ℕ) × (x ≡ p + 64 + 64 * j) × (signedAt s x ≡ true) → (j : ℕ) × (x ≡ p + 64 * j) × (signedAt s x ≡ true)
+      later p (j, e, y) = (suc j, omega arith, y)
+
+      here : (p : ℕ) → signedAt s p ≡ true → (List·Memᴰ x (signaturesFrom s (p + 64)) → (j : ℕ) × (x ≡ p + 64 + 64 * j) × (signedAt s x ≡ true))
+          → (x ≡ p) ⊎ List·Memᴰ x (signaturesFrom s (p + 64)) → (j : ℕ) × (x ≡ p + 64 * j) × (signedAt s x ≡ true)
+      here p y ih (inl e) = (0, omega arith, rw e y)
+      here p y ih (inr m) = later p (ih m)
+
+  pub signs-complete : (j n : ℕ) → signedAt s (n + 64 * j) ≡ true → List·Memᴰ (n + 64 * j) (signaturesFrom s n)
+  signs-complete zero n y =
+      let z : n + 64 * 0 ≡ n = omega arith in
+      let t : signedAt s n ≡ true = rw z at y in
+      rw (z, signs-here s n (signed-long n t) t) (List·Memᴰ·head refl)
+  signs-complete (suc j) n y = go (signedAt s n) refl (Memᴰ·cast (sym e) (signs-complete j (n + 64) t))
+    where
+      e : n + 64 + 64 * j ≡ n + 64 * suc j
+      e = omega arith
+
+      t : signedAt s (n + 64 + 64 * j) ≡ true
+      t = rw e y
+
+      l : n + 8 ≤ length s
+      l = omega (arith, signed-long (n + 64 * suc j) y)
+
+      go : (b : Bool) → signedAt s n ≡ b → List·Memᴰ (n + 64 * suc j) (signaturesFrom s (n + 64)) → List·Memᴰ (n + 64 * suc j) (signaturesFrom s n)
+      go true q m = rw (signs-here s n l q) (List·Memᴰ·tail m)
+      go false q m = rw (signs-not s n l q) m

@@ -3,20 +3,22 @@ use Prim.Native.Nat.{ℕ, _+_, _*_, _≤_, _<_}
 use native.Mathlib.Nat.{zero-add}
 use native.Mathlib.Omega.{arith}
 use native.Mathlib.Decide.{decLt}
-use mathlib.Core.Path.{_≡_, refl, sym, ap, _∙_}
+use mathlib.Core.Path.{_≡_, refl, sym}
 use mathlib.Core.Logic.{inl, inr}
 use mathlib.Core.List.{List, List·Memᴰ, List·Memᴰ·head, List·Memᴰ·eq-of-singleton}
 use lib.ListN.{length, take, drop}
 use Rattle.number.proofs.SameBytes.{eq-true, eq-refl}
+use Rattle.number.proofs.Tested.{any-some, two-none}
 use Rattle.terms.specs.Refusals.{firstFailed}
+use Rattle.area.specs.Names.{nameAt}
+use Rattle.area.specs.Area.{sameName, cross, holdsMap}
+use Rattle.area.proofs.Facts.{Inside, Fit, ApartOrNested, Own, extent, fit, turned, uncrossed, own, unnamed}
 use Rattle.fmap.specs.Signatures.{signature, signed, signedAt, signaturesFrom, signatures}
-use Rattle.fmap.specs.Names.{nameAt}
-use Rattle.fmap.specs.Fmap.{nareas, mapEnd, sameName, cross, holdsMap, tests, unused, mapOf, refused, answer, fmapBy, fmap}
-use Rattle.fmap.specs.declared.Map.{Map}
+use Rattle.fmap.specs.Fmap.{nareas, mapEnd, tests, unused, refused, fmapBy, fmap}
+use Rattle.fmap.proofs.Signing.{signs-sound, signs-complete}
 use Rattle.fmap.proofs.Counting.{areas-length}
 use Rattle.fmap.proofs.Reading.{headed}
-use Rattle.fmap.proofs.Listed.{any-some, two-none, signs-sound, signs-complete}
-use Rattle.fmap.proofs.Accepting.{placeOf, areaOf, nth, areas, Inside, Fit, ApartOrNested, Own, answered, accepted, extent, fit, turned, uncrossed, own, unnamed, count-is, long, area-is, each, wholes, padded-past}
+use Rattle.fmap.proofs.Accepting.{placeOf, areaOf, areas, nth, answered, accepted, count-is, long, area-is, area-past, each, wholes}
 
 -- A refusal has its number, and is zero otherwise.
 pub refusal-zero : (i : List ℕ) → ((fmap i) .number ≡ 0 → ⊥) → fmap i ≡ refused ((fmap i) .number)
@@ -42,7 +44,7 @@ module _ (i : List ℕ) (ok : (fmap i) .number ≡ 0) where
   map-inside =
       let h = headed i (placeOf i) (length i) (accepted i ok .header) in
       let e = count-is i ok in
-      (omega (arith, h .some-area), omega (arith, h .most), omega (arith, h .within))
+      (omega (arith, h .some-area), omega (arith, h .no-more), omega (arith, h .within))
 
   -- Each area lies in the image, and is not empty.
   pub areas-inside : (k : ℕ) → k < (fmap i) .count → Inside (length i) (areaOf (fmap i) k)
@@ -80,13 +82,12 @@ module _ (i : List ℕ) (ok : (fmap i) .number ≡ 0) where
       by (no g) (no o) = let e : j ≡ k = omega arith in rw e (inr (inl (omega arith, omega arith)))
 
   -- An area is named FMAP and holds the whole map.
-  pub map-area : (k : ℕ) × (k < (fmap i) .count) × Own i (areaOf (fmap i) k)
+  pub map-area : (k : ℕ) × (k < (fmap i) .count) × Own i (placeOf i) (mapEnd i (placeOf i)) (areaOf (fmap i) k)
   map-area =
       let (k, h, y) = any-some unused (holdsMap i (placeOf i) (mapEnd i (placeOf i))) (areas i) (wholes i ok .2) in
       let l : k < (fmap i) .count = omega (arith, count-is i ok, areas-length i (nareas i (placeOf i)) (placeOf i + 56), h) in
-      (k, l, rw (area-is i ok k l) (own i (nth i k) y))
+      (k, l, rw (area-is i ok k l) (own i (placeOf i) (mapEnd i (placeOf i)) (nth i k) y))
 
   -- Past the count every record is zero.
   pub unused-zero : (k : ℕ) → (fmap i) .count ≤ k → areaOf (fmap i) k ≡ unused
-  unfolding mapOf
-  unused-zero k h = ap (λ (m : Map). areaOf m k) (accepted i ok .answer) ∙ padded-past (areas i) k (omega (arith, count-is i ok, areas-length i (nareas i (placeOf i)) (placeOf i + 56)))
+  unused-zero = area-past i ok

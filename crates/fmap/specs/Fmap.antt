@@ -1,18 +1,17 @@
 -- The flash map of an image (document 01, "Flash map", and refusals 1 and 27 to 37): little-endian, packed.
 -- The map that stands at a place `at` of the bytes s is judged against a length l.
-use Prim.Native.Nat.{ℕ, zero, suc, _+_, _*_, _-_}
+use Prim.Native.Nat.{ℕ, zero, suc, _+_, _*_}
 use mathlib.Core.List.{List, [], _∷_, _++_}
-use mathlib.Core.Bool.{Bool, cond, not, _||_}
-use lib.ListN.{length, drop, getD, replicate}
+use mathlib.Core.Bool.{Bool, cond}
+use lib.ListN.{length, getD}
 use lib.Dec.{leb, eqb}
 use Rattle.number.specs.Number.{le}
-use Rattle.number.specs.Bytes.{eqBytes}
 use Rattle.number.specs.Tests.{every}
+use Rattle.number.specs.Lists.{any, noTwo, padded}
 use Rattle.terms.specs.Refusals.{Test, test, firstFailed, lengthFits}
-use Rattle.number.specs.Lists.{any, noTwo}
+use Rattle.area.specs.declared.Area.{Area}
+use Rattle.area.specs.Area.{sameName, cross, holdsMap, areaTests}
 use Rattle.fmap.specs.Signatures.{signatures, firstOr}
-use Rattle.fmap.specs.Names.{nameFits, nameAt}
-use Rattle.fmap.specs.declared.Area.{Area}
 use Rattle.fmap.specs.declared.Map.{Map}
 
 -- The header, 56 bytes: signature, major, minor, base, size, name, nareas. The header's own name is not read.
@@ -49,10 +48,6 @@ areasAt s (suc k) p = areaAt s p ∷ areasAt s k (p + 42)
 abbrev pub areasOf : List ℕ → ℕ → List Area
 areasOf s at = areasAt s (nareas s at) (at + 56)
 
--- Where an area ends.
-abbrev pub endOf : Area → ℕ
-endOf a = a .offset + a .size
-
 -- How many areas a map may have.
 abbrev pub most : ℕ
 most = 256
@@ -60,40 +55,6 @@ most = 256
 -- 32: there are 1 to 256 areas.
 unfoldable pub countFits : ℕ → Bool
 countFits n = every (leb 1 n ∷ leb n most ∷ [])
-
--- 34: two areas have the same name.
-
-unfoldable pub bears : List ℕ → List ℕ → Area → Bool
-bears s name a = eqBytes (nameAt s (a .name)) name
-
-abbrev pub sameName : List ℕ → Area → Area → Bool
-sameName s a = bears s (nameAt s (a .name))
-
--- 35: an area is not empty, and ends at l or before.
-unfoldable pub extentFits : ℕ → Area → Bool
-extentFits l a = every (leb 1 (a .size) ∷ leb (endOf a) l ∷ [])
-
--- 36: two areas cross. They are not disjoint, and neither holds the other.
-
-unfoldable pub disjoint : Area → Area → Bool
-disjoint a b = leb (endOf a) (b .offset) || leb (endOf b) (a .offset)
-
-unfoldable pub holds : Area → Area → Bool
-holds a b = every (leb (a .offset) (b .offset) ∷ leb (endOf b) (endOf a) ∷ [])
-
-unfoldable pub cross : Area → Area → Bool
-cross a b = every (not (disjoint a b) ∷ not (holds a b) ∷ not (holds b a) ∷ [])
-
--- 37: an area is named FMAP, and holds the bytes from `at` up to e.
-
-unfoldable pub ownName : List ℕ
-ownName = 0x46 ∷ 0x4D ∷ 0x41 ∷ 0x50 ∷ []
-
-unfoldable pub ownTests : List ℕ → ℕ → ℕ → Area → List Bool
-ownTests s at e a = bears s ownName a ∷ leb (a .offset) at ∷ leb e (endOf a) ∷ []
-
-unfoldable pub holdsMap : List ℕ → ℕ → ℕ → Area → Bool
-holdsMap s at e a = every (ownTests s at e a)
 
 -- The tests in the order of their refusals: "1, 27 to 32, areas in turn by 33 then 35, then 34, 36, 37".
 
@@ -110,11 +71,7 @@ headerTests s at l =
     ∷ test 32 (countFits (nareas s at))
     ∷ []
 
--- Of each area in turn.
-
-unfoldable pub areaTests : List ℕ → ℕ → Area → List Test
-areaTests s l a = test 33 (nameFits (drop (a .name) s)) ∷ test 35 (extentFits l a) ∷ []
-
+-- Of each area in turn, by 33 then 35.
 unfoldable pub turnTests : List ℕ → ℕ → List Area → List Test
 turnTests s l [] = []
 turnTests s l (a ∷ xs) = areaTests s l a ++ turnTests s l xs
@@ -140,9 +97,6 @@ tests i ps = test 1 (lengthFits i) ∷ (signatureTests ps ++ testsAt i (firstOr 
 abbrev pub unused : Area
 unused = record { offset = 0; size = 0; flags = 0; name = 0 }
 
-unfoldable pub padded : List Area → List Area
-padded xs = xs ++ replicate (most - length xs) unused
-
 unfoldable pub mapOf : List ℕ → ℕ → Map
 mapOf s at = record {
   number = 0;
@@ -150,11 +104,11 @@ mapOf s at = record {
   minor = minor s at;
   base = base s at;
   count = nareas s at;
-  areas = padded (areasOf s at);
+  areas = padded most unused (areasOf s at);
 }
 
 unfoldable pub refused : ℕ → Map
-refused n = record { number = n; place = 0; minor = 0; base = 0; count = 0; areas = padded [] }
+refused n = record { number = n; place = 0; minor = 0; base = 0; count = 0; areas = padded most unused [] }
 
 -- The map at `at`, or the refusal by the number n.
 unfoldable pub answer : ℕ → List ℕ → ℕ → Map

@@ -1,3 +1,2 @@
 pub mod Signatures
-pub mod Names
 pub mod Fmap

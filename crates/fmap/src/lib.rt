@@ -1,24 +1,18 @@
 // The flash map reader (document 01, "Flash map"): the signatures in a run of bytes; the map at a place, judged against a length; the reader, which joins the two.
+use area::Area;
 ghost use mathlib.Core.Path.{_≡_};
-ghost use Prim.Native.Nat.{_+_, _*_, _-_, _≤_, _<_, _^_, min};
+ghost use Prim.Native.Nat.{_+_, _*_, _≤_};
 ghost use lib.ListN.{length};
 ghost use lib.Dec.{leb};
+ghost use Rattle.number.specs.Lists.{any, noTwo, padded};
 ghost use Rattle.terms.specs.Refusals.{firstFailed};
-ghost use Rattle.number.specs.Lists.{any, noTwo};
+ghost use Rattle.area.specs.Names.{nameAt};
+ghost use Rattle.area.specs.Area.{bears, sameName, cross, holdsMap};
 ghost use Rattle.fmap.specs.Signatures.{signed as signedOf, signatures as signaturesOf, signaturesFrom, firstOr, found};
-ghost use Rattle.fmap.specs.Names.{printed as printedOf, nameOf, nameAt};
-ghost use Rattle.fmap.specs.Fmap.{areaAt, areasAt, areasOf, countFits, bears as bearsOf, sameName, extentFits, disjoint as disjointOf, holds as holdsOf, cross as crossOf, holdsMap, mapEnd, nareas, headerTests, areaTests, turnTests, wholeTests, testsAt, padded, unused as unusedOf, mapOf, refused as refusedOf, mapAt, fmap};
+ghost use Rattle.fmap.specs.Fmap.{areaAt, areasAt, areasOf, most, countFits, mapEnd, nareas, headerTests, turnTests, wholeTests, testsAt, unused as unusedOf, mapOf, refused as refusedOf, mapAt, fmap};
 
 // How many areas a map may have.
 const MOST: usize = 256;
-
-// An area of a map: where it begins, how long it is, its flags, and the place of its name.
-pub struct Area {
-    pub offset: usize,
-    pub size: usize,
-    pub flags: u16,
-    pub name: usize,
-}
 
 // A map that was read, or a refusal: its number (0 where the map was read), the place that it tells, and zeros.
 // The areas come in map order; those past the count are zero.
@@ -81,63 +75,18 @@ pub fn signatures(s: &[u8]) -> Found
     Found::At(p)
 }
 
-// How many bytes of 0x21 to 0x7E the bytes begin with, up to 32.
-fn printed(f: &[u8]) -> usize
-    ensures { λ r. ⌜ r ≡ min 32 (length (printedOf (now (f .entry)))) ⌝ }
-{
-    let mut i = 0;
-    while i < 32 {
-        if f.len() <= i {
-            return i;
-        }
-        let b = f[i];
-        if b < 0x21 {
-            return i;
-        }
-        if 0x7E < b {
-            return i;
-        }
-        i += 1;
-    }
-    32
-}
-
-// The length of the name at the start of the bytes, or 0 where none is fit.
-fn name_length(f: &[u8]) -> usize
-    ensures { λ r. ⌜ r ≡ length (nameOf (now (f .entry))) ⌝ }
-{
-    let n = printed(f);
-    if 31 < n {
-        return 0;
-    }
-    if f.len() <= n {
-        return 0;
-    }
-    if f[n] != 0 {
-        return 0;
-    }
-    n
-}
-
-// The name that stands at p, as a part of the bytes; empty where none is fit.
-fn name_at(s: &[u8], p: usize) -> &[u8]
-    ensures { λ r. ⌜ now r ≡ nameAt (now (s .entry)) p ⌝ }
-{
-    number::part(s, p, name_length(number::rest(s, p)))
-}
-
 // An area's name, as a part of the image; empty where its record's place holds no fit name.
 pub fn name(image: &[u8], area: Area) -> &[u8]
     ensures { λ r. ⌜ now r ≡ nameAt (now (image .entry)) (area .name) ⌝ }
     ensures kept { λ _. ⌜ now (image .exit) ≡ now (image .entry) ⌝ }
 {
-    name_at(image, area.name)
+    area::name(image, area)
 }
 
 // The area that stands at p, of which 42 bytes lie in s.
 fn area_at(s: &[u8], p: usize) -> Area
     requires { ⌜ p + 42 ≤ length (now s) ⌝ }
-    ensures { λ r. ⌜ (r ≡ areaAt (now (s .entry)) p) × (r .offset + r .size < 2 ^ 64) ⌝ }
+    ensures { λ r. ⌜ r ≡ areaAt (now (s .entry)) p ⌝ }
 {
     Area {
         offset: number::le32(s, p) as usize,
@@ -176,103 +125,6 @@ fn count_fits(n: usize) -> bool
     true
 }
 
-// Test 35: the area is not empty, and does not pass the size.
-fn extent_fits(size: usize, a: Area) -> bool
-    requires { ⌜ a .offset + a .size < 2 ^ 64 ⌝ }
-    ensures { λ r. ⌜ r ≡ extentFits size a ⌝ }
-{
-    if a.size < 1 {
-        return false;
-    }
-    if size < a.offset + a.size {
-        return false;
-    }
-    true
-}
-
-// Two areas share no byte.
-fn disjoint(a: Area, b: Area) -> bool
-    requires { ⌜ (a .offset + a .size < 2 ^ 64) × (b .offset + b .size < 2 ^ 64) ⌝ }
-    ensures { λ r. ⌜ r ≡ disjointOf a b ⌝ }
-{
-    if a.offset + a.size <= b.offset {
-        return true;
-    }
-    if b.offset + b.size <= a.offset {
-        return true;
-    }
-    false
-}
-
-// The area a holds the area b.
-fn holds(a: Area, b: Area) -> bool
-    requires { ⌜ (a .offset + a .size < 2 ^ 64) × (b .offset + b .size < 2 ^ 64) ⌝ }
-    ensures { λ r. ⌜ r ≡ holdsOf a b ⌝ }
-{
-    if b.offset < a.offset {
-        return false;
-    }
-    if a.offset + a.size < b.offset + b.size {
-        return false;
-    }
-    true
-}
-
-// Two areas cross: they are not disjoint, and neither holds the other.
-fn cross(a: Area, b: Area) -> bool
-    requires { ⌜ (a .offset + a .size < 2 ^ 64) × (b .offset + b .size < 2 ^ 64) ⌝ }
-    ensures { λ r. ⌜ r ≡ crossOf a b ⌝ }
-{
-    if disjoint(a, b) {
-        return false;
-    }
-    if holds(a, b) {
-        return false;
-    }
-    if holds(b, a) {
-        return false;
-    }
-    true
-}
-
-// The area bears the name.
-fn bears(s: &[u8], name: &[u8], a: Area) -> bool
-    ensures { λ r. ⌜ r ≡ bearsOf (now (s .entry)) (now (name .entry)) a ⌝ }
-{
-    number::equal(name_at(s, a.name), name)
-}
-
-// Test 37 on one area: it is named FMAP, and holds the bytes from `at` up to `end`.
-fn holds_map(s: &[u8], at: usize, end: usize, a: Area) -> bool
-    requires { ⌜ a .offset + a .size < 2 ^ 64 ⌝ }
-    ensures { λ r. ⌜ r ≡ holdsMap (now (s .entry)) at end a ⌝ }
-{
-    if !bears(s, b"FMAP", a) {
-        return false;
-    }
-    if at < a.offset {
-        return false;
-    }
-    if a.offset + a.size < end {
-        return false;
-    }
-    true
-}
-
-// Tests 33 and 35: the refusal of one area, or 0.
-fn area_refusal(s: &[u8], size: usize, a: Area) -> u32
-    requires { ⌜ a .offset + a .size < 2 ^ 64 ⌝ }
-    ensures { λ r. ⌜ r ≡ firstFailed (areaTests (now (s .entry)) size a) ⌝ }
-{
-    if name_length(number::rest(s, a.name)) == 0 {
-        return 33;
-    }
-    if !extent_fits(size, a) {
-        return 35;
-    }
-    0
-}
-
 // The first refusal of the `count` areas from `from` on, or 0.
 fn turn_refusal(s: &[u8], size: usize, from: usize, count: usize) -> u32
     requires { ⌜ from + 42 * count ≤ length (now s) ⌝ }
@@ -281,7 +133,7 @@ fn turn_refusal(s: &[u8], size: usize, from: usize, count: usize) -> u32
     let mut p = from;
     let mut k = count;
     while 0 < k {
-        let n = area_refusal(s, size, area_at(s, p));
+        let n = area::refusal(s, size, area_at(s, p));
         if n != 0 {
             return n;
         }
@@ -294,12 +146,12 @@ fn turn_refusal(s: &[u8], size: usize, from: usize, count: usize) -> u32
 // One of the `count` areas from `from` on bears the name.
 fn name_borne(s: &[u8], name: &[u8], from: usize, count: usize) -> bool
     requires { ⌜ from + 42 * count ≤ length (now s) ⌝ }
-    ensures { λ r. ⌜ r ≡ any (bearsOf (now (s .entry)) (now (name .entry))) (areasAt (now (s .entry)) count from) ⌝ }
+    ensures { λ r. ⌜ r ≡ any (bears (now (s .entry)) (now (name .entry))) (areasAt (now (s .entry)) count from) ⌝ }
 {
     let mut p = from;
     let mut k = count;
     while 0 < k {
-        if bears(s, name, area_at(s, p)) {
+        if area::bears(s, name, area_at(s, p)) {
             return true;
         }
         p += 42;
@@ -319,7 +171,7 @@ fn names_differ(s: &[u8], from: usize, count: usize) -> bool
         let a = area_at(s, p);
         p += 42;
         k -= 1;
-        if name_borne(s, name_at(s, a.name), p, k) {
+        if name_borne(s, area::name(s, a), p, k) {
             return false;
         }
     }
@@ -328,13 +180,13 @@ fn names_differ(s: &[u8], from: usize, count: usize) -> bool
 
 // One of the `count` areas from `from` on and the area a cross.
 fn crossed(s: &[u8], a: Area, from: usize, count: usize) -> bool
-    requires { ⌜ (a .offset + a .size < 2 ^ 64) × (from + 42 * count ≤ length (now s)) ⌝ }
-    ensures { λ r. ⌜ r ≡ any (crossOf a) (areasAt (now (s .entry)) count from) ⌝ }
+    requires { ⌜ from + 42 * count ≤ length (now s) ⌝ }
+    ensures { λ r. ⌜ r ≡ any (cross a) (areasAt (now (s .entry)) count from) ⌝ }
 {
     let mut p = from;
     let mut k = count;
     while 0 < k {
-        if cross(a, area_at(s, p)) {
+        if area::cross(a, area_at(s, p)) {
             return true;
         }
         p += 42;
@@ -346,7 +198,7 @@ fn crossed(s: &[u8], a: Area, from: usize, count: usize) -> bool
 // Test 36: no two of the `count` areas from `from` on cross.
 fn none_cross(s: &[u8], from: usize, count: usize) -> bool
     requires { ⌜ from + 42 * count ≤ length (now s) ⌝ }
-    ensures { λ r. ⌜ r ≡ noTwo crossOf (areasAt (now (s .entry)) count from) ⌝ }
+    ensures { λ r. ⌜ r ≡ noTwo cross (areasAt (now (s .entry)) count from) ⌝ }
 {
     let mut p = from;
     let mut k = count;
@@ -369,7 +221,7 @@ fn map_held(s: &[u8], at: usize, end: usize, from: usize, count: usize) -> bool
     let mut p = from;
     let mut k = count;
     while 0 < k {
-        if holds_map(s, at, end, area_at(s, p)) {
+        if area::holds_map(s, at, end, area_at(s, p)) {
             return true;
         }
         p += 42;
@@ -446,7 +298,7 @@ fn unused() -> Area
 // The `count` areas from `from` on, and unused ones after them.
 fn areas(s: &[u8], from: usize, count: usize) -> [Area; MOST]
     requires { ⌜ (from + 42 * count ≤ length (now s)) × (count ≤ 256) ⌝ }
-    ensures { λ r. ⌜ r ≡ padded (areasAt (now (s .entry)) count from) ⌝ }
+    ensures { λ r. ⌜ r ≡ padded most unusedOf (areasAt (now (s .entry)) count from) ⌝ }
 {
     let mut all = [unused(); MOST];
     let mut p = from;

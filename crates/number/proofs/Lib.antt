@@ -4,3 +4,4 @@ pub mod Overwrite
 pub mod Splice
 pub mod Passing
 pub mod Padding
+pub mod Tested

@@ -1,4 +1,3 @@
-use native.Mathlib.Omega.{arith}
 use Rattle.fmap.specs.Fmap.{areaAt}
 use borrow.Author.Needs.{needs}
 use Rattle.fmap.proofs.area_at.Statement.{statement}
@@ -30,7 +29,7 @@ add-t10 c = search needs
 
 returns : tie.Need-returns
 unfolding areaAt
-returns c = (rw (c .before .before .le32 .ensures .0, c .before .le322 .ensures .0, c .le16 .ensures .0), omega arith)
+returns c = rw (c .before .before .le32 .ensures .0, c .before .le322 .ensures .0, c .le16 .ensures .0)
 
 pub area-at-spec : {M : Type 1} → statement M
 area-at-spec =

@@ -1,14 +1,15 @@
 use Prim.Native.Nat.{ℕ, _+_, _*_, _-_, _≤_}
 use mathlib.Core.Path.{_≡_, ap, _∙_}
 use native.Mathlib.Omega.{arith}
-use Rattle.fmap.specs.Fmap.{areasAt, padded}
-use Rattle.fmap.proofs.Counting.{padded-none, padded-next}
+use Rattle.number.specs.Lists.{padded}
+use Rattle.fmap.specs.Fmap.{areasAt, most, unused}
+use Rattle.fmap.proofs.Counting.{padded-start, padded-next}
 use borrow.Author.Needs.{needs}
 use Rattle.fmap.proofs.areas.Statement.{statement}
 use Rattle.fmap.proofs.areas.Tie as tie
 
 abbrev Inv-loop : tie.InvT-loop
-Inv-loop s from count all₀ p₀ i₀ all p i = (i ≤ count) × (p ≡ from + 42 * i) × (all ≡ padded (areasAt s i from))
+Inv-loop s from count all₀ p₀ i₀ all p i = (i ≤ count) × (p ≡ from + 42 * i) × (all ≡ padded most unused (areasAt s i from))
 
 abbrev μ-loop : tie.MeasureT-loop
 μ-loop s from count all₀ p₀ i₀ all p i = count - i
@@ -17,7 +18,7 @@ unused-requires : tie.Need-unused-requires Inv-loop μ-loop
 unused-requires c κs = search needs
 
 loop-holds : tie.Need-loop-holds Inv-loop μ-loop
-loop-holds c = (search needs, search needs, padded-none _ _ (c .unused .ensures))
+loop-holds c = (search needs, search needs, padded-start _ _ (c .unused .ensures))
 
 area-at-requires : tie.Need-area-at-requires Inv-loop μ-loop
 area-at-requires c κs = search needs
@@ -41,14 +42,14 @@ loop-again : tie.Need-loop-again Inv-loop μ-loop
 loop-again c =
     let l = c .before .before in
     let a = l .before .before .before .args in
-    (omega arith, omega arith, padded-next (a .s .now) (a .from) (l .loop .i) (l .loop .p) (omega arith) (l .loop .inv .1) (l .loop .inv .2) (c .area-at .ensures .0))
+    (omega arith, omega arith, padded-next (a .s .now) (a .from) (l .loop .i) (l .loop .p) (omega arith) (l .loop .inv .1) (l .loop .inv .2) (c .area-at .ensures))
 
 returns : tie.Need-returns Inv-loop μ-loop
 returns c =
     let l = c .before in
     let a = l .before .before .before .args in
     let e : l .loop .i ≡ a .count = omega arith in
-    l .loop .inv .2 ∙ ap (λ (n : ℕ). padded (areasAt (a .s .now) n (a .from))) e
+    l .loop .inv .2 ∙ ap (λ (n : ℕ). padded most unused (areasAt (a .s .now) n (a .from))) e
 
 pub areas-spec : {M : Type 1} → statement M
 areas-spec =

@@ -3,14 +3,15 @@ use mathlib.Core.Path.{_≡_, sym, refl, _∙_}
 use native.Mathlib.Omega.{arith}
 use lib.ListN.{length}
 use Rattle.number.specs.Lists.{any}
-use Rattle.fmap.specs.Fmap.{areasAt, cross as crossOf}
+use Rattle.area.specs.Area.{cross}
+use Rattle.fmap.specs.Fmap.{areasAt}
 use Rattle.fmap.proofs.Counting.{any-here, any-not, any-end}
 use borrow.Author.Needs.{needs}
 use Rattle.fmap.proofs.crossed.Statement.{statement}
 use Rattle.fmap.proofs.crossed.Tie as tie
 
 abbrev Inv-loop : tie.InvT-loop
-Inv-loop s a from count p₀ k₀ p k = (p + 42 * k ≤ length s) × (any (crossOf a) (areasAt s count from) ≡ any (crossOf a) (areasAt s k p))
+Inv-loop s a from count p₀ k₀ p k = (p + 42 * k ≤ length s) × (any (cross a) (areasAt s count from) ≡ any (cross a) (areasAt s k p))
 
 abbrev μ-loop : tie.MeasureT-loop
 μ-loop s a from count p₀ k₀ p k = k
@@ -29,7 +30,7 @@ returns c =
     let r = c .before .before in
     let l = r .before .before in
     let a = l .before .before .args in
-    sym (l .loop .inv .1 ∙ any-here (a .s .now) (l .loop .k) (l .loop .p) (r .area-at .ensures .0) (crossOf (a .a)) (omega arith) (c .before .cross .ensures) (c .if1 .taken))
+    sym (l .loop .inv .1 ∙ any-here (a .s .now) (l .loop .k) (l .loop .p) (r .area-at .ensures) (cross (a .a)) (omega arith) (c .before .cross .ensures) (c .if1 .taken))
 
 add-p : tie.Need-add-p Inv-loop μ-loop
 add-p c = search needs
@@ -45,13 +46,13 @@ loop-again c =
     let r = c .before .before in
     let l = r .before .before in
     let a = l .before .before .args in
-    (omega arith, l .loop .inv .1 ∙ any-not (a .s .now) (l .loop .k) (l .loop .p) (r .area-at .ensures .0) (crossOf (a .a)) (omega arith) (c .before .cross .ensures) (c .if1 .left))
+    (omega arith, l .loop .inv .1 ∙ any-not (a .s .now) (l .loop .k) (l .loop .p) (r .area-at .ensures) (cross (a .a)) (omega arith) (c .before .cross .ensures) (c .if1 .left))
 
 returns-2 : tie.Need-returns-2 Inv-loop μ-loop
 returns-2 c =
     let l = c .before in
     let a = l .before .before .args in
-    sym (l .loop .inv .1 ∙ any-end (a .s .now) (l .loop .k) (l .loop .p) (crossOf (a .a)) (omega arith))
+    sym (l .loop .inv .1 ∙ any-end (a .s .now) (l .loop .k) (l .loop .p) (cross (a .a)) (omega arith))
 
 pub crossed-spec : {M : Type 1} → statement M
 crossed-spec =

@@ -25,7 +25,7 @@ returns c =
     (at-refused (a .s .now) (a .at) (a .size) (n .refusal-at .ensures) (c .before .if1 .taken) (c .refused .ensures), refl)
 
 map-read-requires : tie.Need-map-read-requires
-map-read-requires c κs = (head c .most, head c .within)
+map-read-requires c κs = (head c .no-more, head c .within)
 
 returns-2 : tie.Need-returns-2
 returns-2 c =

@@ -3,7 +3,8 @@ use mathlib.Core.Path.{_≡_, sym, refl, _∙_}
 use native.Mathlib.Omega.{arith}
 use lib.ListN.{length}
 use Rattle.number.specs.Lists.{any}
-use Rattle.fmap.specs.Fmap.{areasAt, holdsMap}
+use Rattle.area.specs.Area.{holdsMap}
+use Rattle.fmap.specs.Fmap.{areasAt}
 use Rattle.fmap.proofs.Counting.{any-here, any-not, any-end}
 use borrow.Author.Needs.{needs}
 use Rattle.fmap.proofs.map_held.Statement.{statement}
@@ -29,7 +30,7 @@ returns c =
     let r = c .before .before in
     let l = r .before .before in
     let a = l .before .before .args in
-    sym (l .loop .inv .1 ∙ any-here (a .s .now) (l .loop .k) (l .loop .p) (r .area-at .ensures .0) (holdsMap (a .s .now) (a .at) (a .end)) (omega arith) (c .before .holds-map .ensures) (c .if1 .taken))
+    sym (l .loop .inv .1 ∙ any-here (a .s .now) (l .loop .k) (l .loop .p) (r .area-at .ensures) (holdsMap (a .s .now) (a .at) (a .end)) (omega arith) (c .before .holds-map .ensures .0) (c .if1 .taken))
 
 add-p : tie.Need-add-p Inv-loop μ-loop
 add-p c = search needs
@@ -45,7 +46,7 @@ loop-again c =
     let r = c .before .before in
     let l = r .before .before in
     let a = l .before .before .args in
-    (omega arith, l .loop .inv .1 ∙ any-not (a .s .now) (l .loop .k) (l .loop .p) (r .area-at .ensures .0) (holdsMap (a .s .now) (a .at) (a .end)) (omega arith) (c .before .holds-map .ensures) (c .if1 .left))
+    (omega arith, l .loop .inv .1 ∙ any-not (a .s .now) (l .loop .k) (l .loop .p) (r .area-at .ensures) (holdsMap (a .s .now) (a .at) (a .end)) (omega arith) (c .before .holds-map .ensures .0) (c .if1 .left))
 
 returns-2 : tie.Need-returns-2 Inv-loop μ-loop
 returns-2 c =

@@ -4,7 +4,8 @@ use native.Mathlib.Omega.{arith}
 use mathlib.Core.List.{List}
 use lib.ListN.{length}
 use Rattle.number.specs.Lists.{any, noTwo}
-use Rattle.fmap.specs.Fmap.{areasAt, bears as bearsOf, sameName}
+use Rattle.area.specs.Area.{bears, sameName}
+use Rattle.fmap.specs.Fmap.{areasAt}
 use Rattle.fmap.proofs.Counting.{two-here, two-not, two-end}
 use borrow.Author.Needs.{needs}
 use Rattle.fmap.proofs.names_differ.Statement.{statement}
@@ -28,8 +29,8 @@ add-p c = search needs
 sub-k : tie.Need-sub-k Inv-loop μ-loop
 sub-k c = search needs
 
-name-at-requires : tie.Need-name-at-requires Inv-loop μ-loop
-name-at-requires c κs = search needs
+name-requires : tie.Need-name-requires Inv-loop μ-loop
+name-requires c κs = search needs
 
 name-borne-requires : tie.Need-name-borne-requires Inv-loop μ-loop
 name-borne-requires c κs = search needs
@@ -39,7 +40,7 @@ returns c =
     let r = c .before .before .before in
     let l = r .before .before in
     let a = l .before .before .args in
-    sym (l .loop .inv .1 ∙ two-here (a .s .now) (l .loop .k) (l .loop .p) (r .area-at .ensures .0) (sameName (a .s .now)) (omega arith) (c .before .name-borne .ensures ∙ ap (λ (n : List ℕ). any (bearsOf (a .s .now) n) (areasAt (a .s .now) (l .loop .k - 1) (l .loop .p + 42))) (c .before .before .name-at .ensures)) (c .if1 .taken))
+    sym (l .loop .inv .1 ∙ two-here (a .s .now) (l .loop .k) (l .loop .p) (r .area-at .ensures) (sameName (a .s .now)) (omega arith) (c .before .name-borne .ensures ∙ ap (λ (n : List ℕ). any (bears (a .s .now) n) (areasAt (a .s .now) (l .loop .k - 1) (l .loop .p + 42))) (c .before .before .name .ensures .0)) (c .if1 .taken))
 
 loop-less : tie.Need-loop-less Inv-loop μ-loop
 loop-less c = search needs
@@ -49,7 +50,7 @@ loop-again c =
     let r = c .before .before .before in
     let l = r .before .before in
     let a = l .before .before .args in
-    (omega arith, l .loop .inv .1 ∙ two-not (a .s .now) (l .loop .k) (l .loop .p) (r .area-at .ensures .0) (sameName (a .s .now)) (omega arith) (c .before .name-borne .ensures ∙ ap (λ (n : List ℕ). any (bearsOf (a .s .now) n) (areasAt (a .s .now) (l .loop .k - 1) (l .loop .p + 42))) (c .before .before .name-at .ensures)) (c .if1 .left))
+    (omega arith, l .loop .inv .1 ∙ two-not (a .s .now) (l .loop .k) (l .loop .p) (r .area-at .ensures) (sameName (a .s .now)) (omega arith) (c .before .name-borne .ensures ∙ ap (λ (n : List ℕ). any (bears (a .s .now) n) (areasAt (a .s .now) (l .loop .k - 1) (l .loop .p + 42))) (c .before .before .name .ensures .0)) (c .if1 .left))
 
 returns-2 : tie.Need-returns-2 Inv-loop μ-loop
 returns-2 c =
@@ -67,7 +68,7 @@ names-differ-spec =
     area-at-requires
     add-p
     sub-k
-    name-at-requires
+    name-requires
     name-borne-requires
     returns
     loop-less

@@ -3,14 +3,15 @@ use mathlib.Core.Path.{_≡_, sym, refl, _∙_}
 use native.Mathlib.Omega.{arith}
 use lib.ListN.{length}
 use Rattle.number.specs.Lists.{noTwo}
-use Rattle.fmap.specs.Fmap.{areasAt, cross as crossOf}
+use Rattle.area.specs.Area.{cross}
+use Rattle.fmap.specs.Fmap.{areasAt}
 use Rattle.fmap.proofs.Counting.{two-here, two-not, two-end}
 use borrow.Author.Needs.{needs}
 use Rattle.fmap.proofs.none_cross.Statement.{statement}
 use Rattle.fmap.proofs.none_cross.Tie as tie
 
 abbrev Inv-loop : tie.InvT-loop
-Inv-loop s from count p₀ k₀ p k = (p + 42 * k ≤ length s) × (noTwo (crossOf) (areasAt s count from) ≡ noTwo (crossOf) (areasAt s k p))
+Inv-loop s from count p₀ k₀ p k = (p + 42 * k ≤ length s) × (noTwo cross (areasAt s count from) ≡ noTwo cross (areasAt s k p))
 
 abbrev μ-loop : tie.MeasureT-loop
 μ-loop s from count p₀ k₀ p k = k
@@ -35,7 +36,7 @@ returns c =
     let r = c .before .before in
     let l = r .before .before in
     let a = l .before .before .args in
-    sym (l .loop .inv .1 ∙ two-here (a .s .now) (l .loop .k) (l .loop .p) (r .area-at .ensures .0) crossOf (omega arith) (c .before .crossed .ensures) (c .if1 .taken))
+    sym (l .loop .inv .1 ∙ two-here (a .s .now) (l .loop .k) (l .loop .p) (r .area-at .ensures) cross (omega arith) (c .before .crossed .ensures) (c .if1 .taken))
 
 loop-less : tie.Need-loop-less Inv-loop μ-loop
 loop-less c = search needs
@@ -45,13 +46,13 @@ loop-again c =
     let r = c .before .before in
     let l = r .before .before in
     let a = l .before .before .args in
-    (omega arith, l .loop .inv .1 ∙ two-not (a .s .now) (l .loop .k) (l .loop .p) (r .area-at .ensures .0) crossOf (omega arith) (c .before .crossed .ensures) (c .if1 .left))
+    (omega arith, l .loop .inv .1 ∙ two-not (a .s .now) (l .loop .k) (l .loop .p) (r .area-at .ensures) cross (omega arith) (c .before .crossed .ensures) (c .if1 .left))
 
 returns-2 : tie.Need-returns-2 Inv-loop μ-loop
 returns-2 c =
     let l = c .before in
     let a = l .before .before .args in
-    sym (l .loop .inv .1 ∙ two-end (a .s .now) (l .loop .k) (l .loop .p) crossOf (omega arith))
+    sym (l .loop .inv .1 ∙ two-end (a .s .now) (l .loop .k) (l .loop .p) cross (omega arith))
 
 pub none-cross-spec : {M : Type 1} → statement M
 none-cross-spec =

@@ -21,15 +21,15 @@ loop-holds c = (search needs, refl)
 area-at-requires : tie.Need-area-at-requires Inv-loop μ-loop
 area-at-requires c κs = search needs
 
-area-refusal-requires : tie.Need-area-refusal-requires Inv-loop μ-loop
-area-refusal-requires c κs = search needs
+refusal-requires : tie.Need-refusal-requires Inv-loop μ-loop
+refusal-requires c κs = search needs
 
 returns : tie.Need-returns Inv-loop μ-loop
 returns c =
     let r = c .before .before in
     let l = r .before .before in
     let a = l .before .before .args in
-    sym (l .loop .inv .1 ∙ turn-here (a .s .now) (l .loop .k) (l .loop .p) (r .area-at .ensures .0) (a .size) (omega arith) (c .before .area-refusal .ensures) (c .if1 .taken))
+    sym (l .loop .inv .1 ∙ turn-here (a .s .now) (l .loop .k) (l .loop .p) (r .area-at .ensures) (a .size) (omega arith) (c .before .refusal .ensures .0) (c .if1 .taken))
 
 add-p : tie.Need-add-p Inv-loop μ-loop
 add-p c = search needs
@@ -45,7 +45,7 @@ loop-again c =
     let r = c .before .before in
     let l = r .before .before in
     let a = l .before .before .args in
-    (omega arith, l .loop .inv .1 ∙ turn-not (a .s .now) (l .loop .k) (l .loop .p) (r .area-at .ensures .0) (a .size) (omega arith) (c .before .area-refusal .ensures) (c .if1 .left))
+    (omega arith, l .loop .inv .1 ∙ turn-not (a .s .now) (l .loop .k) (l .loop .p) (r .area-at .ensures) (a .size) (omega arith) (c .before .refusal .ensures .0) (c .if1 .left))
 
 returns-2 : tie.Need-returns-2 Inv-loop μ-loop
 returns-2 c =
@@ -61,7 +61,7 @@ turn-refusal-spec =
     μ-loop
     loop-holds
     area-at-requires
-    area-refusal-requires
+    refusal-requires
     returns
     add-p
     sub-k

@@ -1,8 +1,8 @@
 use mathlib.Core.Path.{sym, _∙_}
-use Rattle.fmap.specs.Fmap.{cross as crossOf}
+use Rattle.area.specs.Area.{cross as crossOf}
 use borrow.Author.Needs.{needs}
-use Rattle.fmap.proofs.cross.Statement.{statement}
-use Rattle.fmap.proofs.cross.Tie as tie
+use Rattle.area.proofs.cross.Statement.{statement}
+use Rattle.area.proofs.cross.Tie as tie
 
 disjoint-requires : tie.Need-disjoint-requires
 disjoint-requires c κs = search needs

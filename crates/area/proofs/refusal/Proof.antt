@@ -1,13 +1,13 @@
-use mathlib.Core.Path.{_≡_, sym, _∙_}
+use mathlib.Core.Path.{_≡_, refl, sym, _∙_}
 use mathlib.Core.Bool.{true}
 use lib.ListN.{length, drop}
 use borrow.Author.Tests.{not-true, not-false}
-use Rattle.fmap.specs.Names.{nameOf, nameFits}
-use Rattle.fmap.specs.Fmap.{areaTests}
-use Rattle.fmap.proofs.Naming.{name-fit, name-unfit}
+use Rattle.area.specs.Names.{nameOf, nameFits}
+use Rattle.area.specs.Area.{areaTests}
+use Rattle.area.proofs.Naming.{name-fit, name-unfit}
 use borrow.Author.Needs.{needs}
-use Rattle.fmap.proofs.area_refusal.Statement.{statement}
-use Rattle.fmap.proofs.area_refusal.Tie as tie
+use Rattle.area.proofs.refusal.Statement.{statement}
+use Rattle.area.proofs.refusal.Tie as tie
 
 rest-requires : tie.Need-rest-requires
 rest-requires c κs = search needs
@@ -24,20 +24,20 @@ fit c = name-fit _ (λ e. c .if1 .left (sym (said (c .before)) ∙ e))
 
 returns : tie.Need-returns
 unfolding areaTests
-returns c = rw (name-unfit _ (said (c .before) ∙ c .if1 .taken))
+returns c = (rw (name-unfit _ (said (c .before) ∙ c .if1 .taken)), refl)
 
 extent-fits-requires : tie.Need-extent-fits-requires
 extent-fits-requires c κs = search needs
 
 returns-2 : tie.Need-returns-2
 unfolding areaTests
-returns-2 c = rw (fit (c .before .before), sym (c .before .extent-fits .ensures) ∙ not-true _ (c .if2 .taken))
+returns-2 c = (rw (fit (c .before .before), sym (c .before .extent-fits .ensures) ∙ not-true _ (c .if2 .taken)), refl)
 
 returns-3 : tie.Need-returns-3
 unfolding areaTests
-returns-3 c = rw (fit (c .before .before), sym (c .before .extent-fits .ensures) ∙ not-false _ (c .if2 .left))
+returns-3 c = (rw (fit (c .before .before), sym (c .before .extent-fits .ensures) ∙ not-false _ (c .if2 .left)), refl)
 
-pub area-refusal-spec : {M : Type 1} → statement M
-area-refusal-spec =
+pub refusal-spec : {M : Type 1} → statement M
+refusal-spec =
     tie.close
     (tie.spec rest-requires name-length-requires returns extent-fits-requires returns-2 returns-3)

@@ -1,7 +1,7 @@
-use Rattle.fmap.proofs.Naming.{name-long, name-cut, name-open, name-good}
+use Rattle.area.proofs.Naming.{name-long, name-cut, name-open, name-good}
 use borrow.Author.Needs.{needs}
-use Rattle.fmap.proofs.name_length.Statement.{statement}
-use Rattle.fmap.proofs.name_length.Tie as tie
+use Rattle.area.proofs.name_length.Statement.{statement}
+use Rattle.area.proofs.name_length.Tie as tie
 
 printed-requires : tie.Need-printed-requires
 printed-requires c κs = search needs

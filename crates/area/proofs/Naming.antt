@@ -14,7 +14,7 @@ use borrow.Author.Tests.{le-leb, lt-leb, leb-true, eq-eqb, ne-eqb}
 use Rattle.number.specs.Bytes.{partOf}
 use Rattle.number.proofs.Passing.{fails, passes}
 use Rattle.number.proofs.Splice.{part-in}
-use Rattle.fmap.specs.Names.{isPrintable, printed, nameTests, nameFits, nameOf, nameAt}
+use Rattle.area.specs.Names.{isPrintable, printed, nameTests, nameFits, nameOf, nameAt}
 
 -- printed, over the indices
 

@@ -4,11 +4,11 @@ use native.Mathlib.Omega.{arith}
 use native.Mathlib.Nat.{zero-add}
 use lib.ListN.{length, drop}
 use borrow.Author.Tests.{le-leb, lt-leb}
-use Rattle.fmap.specs.Names.{printed as printedOf}
-use Rattle.fmap.proofs.Naming.{printed-here, printed-not, printed-end}
+use Rattle.area.specs.Names.{printed as printedOf}
+use Rattle.area.proofs.Naming.{printed-here, printed-not, printed-end}
 use borrow.Author.Needs.{needs}
-use Rattle.fmap.proofs.printed.Statement.{statement}
-use Rattle.fmap.proofs.printed.Tie as tie
+use Rattle.area.proofs.printed.Statement.{statement}
+use Rattle.area.proofs.printed.Tie as tie
 
 abbrev Inv-loop : tie.InvT-loop
 Inv-loop f i₀ i = (i ≤ 32) × (length (printedOf f) ≡ i + length (printedOf (drop i f)))

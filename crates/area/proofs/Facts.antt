@@ -1,0 +1,109 @@
+-- What the tests on an area, or on two, say: each as a fact.
+use Prim.Native.Nat.{ℕ, _≤_, _<_}
+use mathlib.Core.Path.{_≡_, refl, sym, _∙_}
+use mathlib.Core.Logic.{_⊎_, inl, inr}
+use mathlib.Core.Bool.{Bool, true, false, cond, not, _||_, true≢false}
+use mathlib.Core.List.{List, [], _∷_}
+use lib.ListN.{length, getD}
+use lib.Dec.{leb}
+use borrow.Author.Tests.{leb-true}
+use Rattle.number.specs.Tests.{every, all}
+use Rattle.number.proofs.Passing.{passes}
+use Rattle.number.proofs.SameBytes.{eq-true, eq-refl}
+use Rattle.area.specs.Names.{isPrintable, printed, nameTests, nameFits, nameOf, nameAt}
+use Rattle.area.specs.Area.{endOf, bears, sameName, extentFits, disjoint, holds, cross, ownName, ownTests, holdsMap}
+use Rattle.area.specs.declared.Area.{Area}
+
+-- An area that is not empty and ends at l or before.
+pub record Inside (l : ℕ) (a : Area) : Type 0 where
+  pub some-byte : 0 < a .size
+  pub within : endOf a ≤ l
+
+pub extent : (l : ℕ) (a : Area) → extentFits l a ≡ true → Inside l a
+unfolding extentFits
+extent l a e = record { some-byte = leb-true 1 (a .size) (p 0); within = leb-true (endOf a) l (p 1) }
+  where
+    p : (k : ℕ) → getD (leb 1 (a .size) ∷ leb (endOf a) l ∷ []) k true ≡ true
+    p k = passes k (leb 1 (a .size) ∷ leb (endOf a) l ∷ []) e
+
+-- A fit name: 1 to 31 bytes of 0x21 to 0x7E.
+pub record Fit (n : List ℕ) : Type 0 where
+  pub some-byte : 1 ≤ length n
+  pub most : length n ≤ 31
+  pub letters : all isPrintable n ≡ true
+
+all-printed : (f : List ℕ) → all isPrintable (printed f) ≡ true
+unfolding all printed
+all-printed [] = refl
+all-printed (b ∷ f) = go (isPrintable b) refl (all-printed f)
+  where
+    go : (t : Bool) → isPrintable b ≡ t → all isPrintable (printed f) ≡ true → all isPrintable (cond t (b ∷ printed f) []) ≡ true
+    go true q ih = rw q ih
+    go false q ih = refl
+
+pub fit : (f : List ℕ) → nameFits f ≡ true → Fit (nameOf f)
+unfolding nameOf nameFits nameTests
+fit f e = rw e (record { some-byte = leb-true 1 (length (printed f)) (p 0); most = leb-true (length (printed f)) 31 (p 1); letters = all-printed f })
+  where
+    p : (k : ℕ) → getD (nameTests f (printed f)) k true ≡ true
+    p k = passes k (nameTests f (printed f)) e
+
+-- Two areas share no byte; one holds the other.
+
+abbrev pub Apart : Area → Area → Type 0
+Apart a b = (endOf a ≤ b .offset) ⊎ (endOf b ≤ a .offset)
+
+abbrev pub Holds : Area → Area → Type 0
+Holds a b = (a .offset ≤ b .offset) × (endOf b ≤ endOf a)
+
+abbrev pub ApartOrNested : Area → Area → Type 0
+ApartOrNested a b = Apart a b ⊎ (Holds a b ⊎ Holds b a)
+
+pub turned : (a b : Area) → ApartOrNested a b → ApartOrNested b a
+turned a b (inl (inl h)) = inl (inr h)
+turned a b (inl (inr h)) = inl (inl h)
+turned a b (inr (inl h)) = inr (inr h)
+turned a b (inr (inr h)) = inr (inl h)
+
+apart : (a b : Area) → disjoint a b ≡ true → Apart a b
+unfolding disjoint
+apart a b e = go (leb (endOf a) (b .offset)) refl e
+  where
+    go : (t : Bool) → leb (endOf a) (b .offset) ≡ t → t || leb (endOf b) (a .offset) ≡ true → Apart a b
+    go true q f = inl (leb-true _ _ q)
+    go false q f = inr (leb-true _ _ f)
+
+within : (a b : Area) → holds a b ≡ true → Holds a b
+unfolding holds
+within a b e = (leb-true (a .offset) (b .offset) (p 0), leb-true (endOf b) (endOf a) (p 1))
+  where
+    p : (k : ℕ) → getD (leb (a .offset) (b .offset) ∷ leb (endOf b) (endOf a) ∷ []) k true ≡ true
+    p k = passes k (leb (a .offset) (b .offset) ∷ leb (endOf b) (endOf a) ∷ []) e
+
+pub uncrossed : (a b : Area) → cross a b ≡ false → ApartOrNested a b
+unfolding cross
+uncrossed a b e = go (disjoint a b) refl (holds a b) refl (holds b a) refl e
+  where
+    go : (x : Bool) → disjoint a b ≡ x → (y : Bool) → holds a b ≡ y → (z : Bool) → holds b a ≡ z → every (not x ∷ not y ∷ not z ∷ []) ≡ false → ApartOrNested a b
+    go true p y q z r f = inl (apart a b p)
+    go false p true q z r f = inr (inl (within a b q))
+    go false p false q true r f = inr (inr (within b a r))
+    go false p false q false r f = absurd (true≢false f)
+
+-- An area that is named FMAP and holds the bytes from `at` up to e.
+pub record Own (s : List ℕ) (at e : ℕ) (a : Area) : Type 0 where
+  pub name : nameAt s (a .name) ≡ ownName
+  pub from : a .offset ≤ at
+  pub end : e ≤ endOf a
+
+pub own : (s : List ℕ) (at e : ℕ) (a : Area) → holdsMap s at e a ≡ true → Own s at e a
+unfolding holdsMap ownTests bears
+own s at e a h = record { name = eq-true _ _ (p 0); from = leb-true _ _ (p 1); end = leb-true _ _ (p 2) }
+  where
+    p : (k : ℕ) → getD (ownTests s at e a) k true ≡ true
+    p k = passes k (ownTests s at e a) h
+
+-- Areas that are told to have different names.
+pub unnamed : (s : List ℕ) (a b : Area) → sameName s a b ≡ false → nameAt s (a .name) ≡ nameAt s (b .name) → ⊥
+unfolding bears
+unnamed s a b e q = true≢false (sym (rw q (eq-refl (nameAt s (b .name)))) ∙ e)

@@ -1,0 +1,55 @@
+-- Worked values: names, one area and two, on both sides of each bound (document 01, "Flash map").
+use Prim.Native.Nat.{ℕ}
+use mathlib.Core.Path.{_≡_, refl}
+use mathlib.Core.Bool.{Bool, true, false}
+use mathlib.Core.List.{List, [], _∷_, _++_, map}
+use lib.ListN.{replicate}
+use Rattle.number.specs.Bytes.{eqBytes}
+use Rattle.area.specs.Names.{printed, nameTests, nameFits, nameOf}
+use Rattle.area.specs.Area.{bears, extentFits, disjoint, holds, cross, ownName, ownTests, holdsMap}
+use Rattle.area.specs.declared.Area.{Area}
+
+-- The name A, n times.
+abbrev a's : ℕ → List ℕ
+a's n = replicate n 0x41
+
+-- A name, the zero after it, and what is not read.
+abbrev field : List ℕ → List ℕ
+field n = n ++ (0 ∷ 0xFF ∷ [])
+
+-- 1 to 31 bytes, and none or 32; 0x21 and 0x7E, and their neighbours; no zero within the bytes.
+fit-names : map (λ (n : List ℕ). nameFits (field n)) (a's 1 ∷ a's 31 ∷ [] ∷ a's 32 ∷ (0x21 ∷ []) ∷ (0x7E ∷ []) ∷ (0x41 ∷ 0x20 ∷ []) ∷ (0x41 ∷ 0x7F ∷ []) ∷ [])
+    ≡ true ∷ true ∷ false ∷ false ∷ true ∷ true ∷ false ∷ false ∷ []
+unfolding printed nameTests nameFits
+fit-names = refl
+
+unended : nameFits (a's 4) ≡ false
+unfolding printed nameTests nameFits
+unended = refl
+
+-- The area of z bytes from o on, whose name stands at byte 0.
+abbrev area : ℕ → ℕ → Area
+area o z = record { offset = o; size = z; flags = 0; name = 0 }
+
+-- Up to byte 16, one byte past it, and no byte.
+extents : map (extentFits 16) (area 8 8 ∷ area 8 9 ∷ area 8 0 ∷ []) ≡ true ∷ false ∷ false ∷ []
+unfolding extentFits
+extents = refl
+
+-- Bytes 8 to 16 beside those that touch them, equal and nested ones, and one byte in common at either end.
+crossings : map (cross (area 8 8)) (area 0 8 ∷ area 16 8 ∷ area 8 8 ∷ area 9 7 ∷ area 0 32 ∷ area 0 9 ∷ area 15 2 ∷ []) ≡ false ∷ false ∷ false ∷ false ∷ false ∷ true ∷ true ∷ []
+unfolding disjoint holds cross
+crossings = refl
+
+-- FMAP holds bytes 8 to 16, begins after byte 8, ends before byte 16; is another name's beginning.
+
+abbrev named : List ℕ → List Area → List Bool
+named n = map (holdsMap (field n) 8 16)
+
+own-area : named ownName (area 8 8 ∷ area 0 32 ∷ area 9 7 ∷ area 8 7 ∷ []) ≡ true ∷ true ∷ false ∷ false ∷ []
+unfolding eqBytes printed nameTests nameFits nameOf bears ownName ownTests holdsMap
+own-area = refl
+
+longer-name : named (ownName ++ a's 1) (area 8 8 ∷ []) ≡ false ∷ []
+unfolding eqBytes printed nameTests nameFits nameOf bears ownName ownTests holdsMap
+longer-name = refl

@@ -1,0 +1,171 @@
+// An area of a flash map, by itself and beside another (document 01, "Flash map"): its name, its extent, and refusals 33 to 37 as far as they are about one area or two.
+// Every sum is compared by differences, so that no numbers overflow.
+ghost use mathlib.Core.Path.{_≡_};
+ghost use Prim.Native.Nat.{min};
+ghost use lib.ListN.{length};
+ghost use lib.Dec.{leb};
+ghost use Rattle.terms.specs.Refusals.{firstFailed};
+ghost use Rattle.area.specs.Names.{printed as printedOf, nameOf, nameAt};
+ghost use Rattle.area.specs.Area.{endOf, bears as bearsOf, extentFits, disjoint as disjointOf, holds as holdsOf, cross as crossOf, holdsMap, areaTests};
+
+// An area of a map: where it begins, how long it is, its flags, and the place of its name.
+pub struct Area {
+    pub offset: usize,
+    pub size: usize,
+    pub flags: u16,
+    pub name: usize,
+}
+
+// How many bytes of 0x21 to 0x7E the bytes begin with, up to 32.
+fn printed(f: &[u8]) -> usize
+    ensures { λ r. ⌜ r ≡ min 32 (length (printedOf (now (f .entry)))) ⌝ }
+{
+    let mut i = 0;
+    while i < 32 {
+        if f.len() <= i {
+            return i;
+        }
+        let b = f[i];
+        if b < 0x21 {
+            return i;
+        }
+        if 0x7E < b {
+            return i;
+        }
+        i += 1;
+    }
+    32
+}
+
+// The length of the name at the start of the bytes, or 0 where none is fit.
+fn name_length(f: &[u8]) -> usize
+    ensures { λ r. ⌜ r ≡ length (nameOf (now (f .entry))) ⌝ }
+{
+    let n = printed(f);
+    if 31 < n {
+        return 0;
+    }
+    if f.len() <= n {
+        return 0;
+    }
+    if f[n] != 0 {
+        return 0;
+    }
+    n
+}
+
+// The area's name, as a part of the bytes; empty where its record's place holds no fit name.
+pub fn name(s: &[u8], a: Area) -> &[u8]
+    ensures { λ r. ⌜ now r ≡ nameAt (now (s .entry)) (a .name) ⌝ }
+    ensures kept { λ _. ⌜ now (s .exit) ≡ now (s .entry) ⌝ }
+{
+    number::part(s, a.name, name_length(number::rest(s, a.name)))
+}
+
+// The area bears the name.
+pub fn bears(s: &[u8], wanted: &[u8], a: Area) -> bool
+    ensures { λ r. ⌜ r ≡ bearsOf (now (s .entry)) (now (wanted .entry)) a ⌝ }
+    ensures kept { λ _. ⌜ (now (s .exit) ≡ now (s .entry)) × (now (wanted .exit) ≡ now (wanted .entry)) ⌝ }
+{
+    number::equal(name(s, a), wanted)
+}
+
+// The area ends at p or before.
+fn ends_by(a: Area, p: usize) -> bool
+    ensures { λ r. ⌜ r ≡ leb (endOf a) p ⌝ }
+{
+    if p < a.offset {
+        return false;
+    }
+    if p - a.offset < a.size {
+        return false;
+    }
+    true
+}
+
+// Test 35: the area is not empty, and does not pass the size.
+fn extent_fits(size: usize, a: Area) -> bool
+    ensures { λ r. ⌜ r ≡ extentFits size a ⌝ }
+{
+    if a.size < 1 {
+        return false;
+    }
+    ends_by(a, size)
+}
+
+// Tests 33 and 35: the refusal of the area by itself, or 0.
+pub fn refusal(s: &[u8], size: usize, a: Area) -> u32
+    ensures { λ r. ⌜ r ≡ firstFailed (areaTests (now (s .entry)) size a) ⌝ }
+    ensures kept { λ _. ⌜ now (s .exit) ≡ now (s .entry) ⌝ }
+{
+    if name_length(number::rest(s, a.name)) == 0 {
+        return 33;
+    }
+    if !extent_fits(size, a) {
+        return 35;
+    }
+    0
+}
+
+// Two areas share no byte.
+fn disjoint(a: Area, b: Area) -> bool
+    ensures { λ r. ⌜ r ≡ disjointOf a b ⌝ }
+{
+    if ends_by(a, b.offset) {
+        return true;
+    }
+    ends_by(b, a.offset)
+}
+
+// The area a holds the area b.
+fn holds(a: Area, b: Area) -> bool
+    ensures { λ r. ⌜ r ≡ holdsOf a b ⌝ }
+{
+    if b.offset < a.offset {
+        return false;
+    }
+    let before = b.offset - a.offset;
+    if a.size < before {
+        return false;
+    }
+    if a.size - before < b.size {
+        return false;
+    }
+    true
+}
+
+// Test 36 on two areas: they are not disjoint, and neither holds the other.
+pub fn cross(a: Area, b: Area) -> bool
+    ensures { λ r. ⌜ r ≡ crossOf a b ⌝ }
+{
+    if disjoint(a, b) {
+        return false;
+    }
+    if holds(a, b) {
+        return false;
+    }
+    if holds(b, a) {
+        return false;
+    }
+    true
+}
+
+// Test 37 on one area: it is named FMAP, and holds the bytes from `at` up to `end`.
+pub fn holds_map(s: &[u8], at: usize, end: usize, a: Area) -> bool
+    ensures { λ r. ⌜ r ≡ holdsMap (now (s .entry)) at end a ⌝ }
+    ensures kept { λ _. ⌜ now (s .exit) ≡ now (s .entry) ⌝ }
+{
+    if !bears(s, b"FMAP", a) {
+        return false;
+    }
+    if at < a.offset {
+        return false;
+    }
+    if end <= a.offset {
+        return true;
+    }
+    if a.size < end - a.offset {
+        return false;
+    }
+    true
+}
