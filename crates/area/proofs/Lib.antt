@@ -1,3 +1,4 @@
+pub mod Records
 pub mod Naming
 pub mod Facts
 pub mod Worked

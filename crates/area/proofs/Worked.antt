@@ -4,9 +4,10 @@ use mathlib.Core.Path.{_≡_, refl}
 use mathlib.Core.Bool.{Bool, true, false}
 use mathlib.Core.List.{List, [], _∷_, _++_, map}
 use lib.ListN.{replicate}
+use Rattle.number.specs.Number.{le}
 use Rattle.number.specs.Bytes.{eqBytes}
 use Rattle.area.specs.Names.{printed, nameTests, nameFits, nameOf}
-use Rattle.area.specs.Area.{bears, extentFits, disjoint, holds, cross, ownName, ownTests, holdsMap}
+use Rattle.area.specs.Area.{areaAt, unused, areaIn, bears, extentFits, disjoint, holds, cross, ownName, ownTests, holdsMap}
 use Rattle.area.specs.declared.Area.{Area}
 
 -- The name A, n times.
@@ -26,6 +27,19 @@ fit-names = refl
 unended : nameFits (a's 4) ≡ false
 unfolding printed nameTests nameFits
 unended = refl
+
+-- The bytes of an area, read field by field; one byte short of it there is none.
+
+abbrev bytes : List ℕ
+bytes = (0x04 ∷ 0x03 ∷ 0x02 ∷ 0x01 ∷ []) ++ (0x14 ∷ 0x13 ∷ 0x12 ∷ 0x11 ∷ []) ++ replicate 32 0x41 ++ (0x22 ∷ 0x21 ∷ [])
+
+read : areaIn (0 ∷ bytes) 1 ≡ record { offset = 0x01020304; size = 0x11121314; flags = 0x2122; name = 9 }
+unfolding le areaAt areaIn
+read = refl
+
+short : areaIn bytes 1 ≡ unused
+unfolding areaIn
+short = refl
 
 -- The area of z bytes from o on, whose name stands at byte 0.
 abbrev area : ℕ → ℕ → Area

@@ -1,14 +1,27 @@
--- The tests on an area of a flash map, and on two (document 01, "Flash map", and refusals 33 to 37). The areas are those of a map in the bytes s.
+-- An area of a flash map in the bytes s, and the tests on one area or two (document 01, "Flash map", and refusals 33 to 37).
 use Prim.Native.Nat.{ℕ, _+_}
 use mathlib.Core.List.{List, [], _∷_}
-use mathlib.Core.Bool.{Bool, not, _||_}
-use lib.ListN.{drop}
+use mathlib.Core.Bool.{Bool, cond, not, _||_}
+use lib.ListN.{length, drop}
 use lib.Dec.{leb}
+use Rattle.number.specs.Number.{le}
 use Rattle.number.specs.Bytes.{eqBytes}
 use Rattle.number.specs.Tests.{every}
 use Rattle.terms.specs.Refusals.{Test, test}
 use Rattle.area.specs.Names.{nameFits, nameAt}
 use Rattle.area.specs.declared.Area.{Area}
+
+-- An area, 42 bytes, little-endian: offset, size, name, flags. Of the name its place is told.
+unfoldable pub areaAt : List ℕ → ℕ → Area
+areaAt s p = record { offset = le 4 s p; size = le 4 s (p + 4); flags = le 2 s (p + 40); name = p + 8 }
+
+-- A record that is not used.
+abbrev pub unused : Area
+unused = record { offset = 0; size = 0; flags = 0; name = 0 }
+
+-- The area at p, or an unused one where its 42 bytes do not lie in s.
+unfoldable pub areaIn : List ℕ → ℕ → Area
+areaIn s p = cond (leb (p + 42) (length s)) (areaAt s p) unused
 
 -- Where an area ends.
 abbrev pub endOf : Area → ℕ

@@ -6,7 +6,7 @@ ghost use lib.ListN.{length};
 ghost use lib.Dec.{leb};
 ghost use Rattle.terms.specs.Refusals.{firstFailed};
 ghost use Rattle.area.specs.Names.{printed as printedOf, nameOf, nameAt};
-ghost use Rattle.area.specs.Area.{endOf, bears as bearsOf, extentFits, disjoint as disjointOf, holds as holdsOf, cross as crossOf, holdsMap, areaTests};
+ghost use Rattle.area.specs.Area.{unused as unusedOf, areaIn, endOf, bears as bearsOf, extentFits, disjoint as disjointOf, holds as holdsOf, cross as crossOf, holdsMap, areaTests};
 
 // An area of a map: where it begins, how long it is, its flags, and the place of its name.
 pub struct Area {
@@ -14,6 +14,37 @@ pub struct Area {
     pub size: usize,
     pub flags: u16,
     pub name: usize,
+}
+
+// A record that is not used: zero throughout.
+pub fn unused() -> Area
+    ensures { λ r. ⌜ r ≡ unusedOf ⌝ }
+{
+    Area {
+        offset: 0,
+        size: 0,
+        flags: 0,
+        name: 0,
+    }
+}
+
+// The area that stands at p; an unused one where its 42 bytes do not lie in s.
+pub fn at(s: &[u8], p: usize) -> Area
+    ensures { λ r. ⌜ r ≡ areaIn (now (s .entry)) p ⌝ }
+    ensures kept { λ _. ⌜ now (s .exit) ≡ now (s .entry) ⌝ }
+{
+    if s.len() < 42 {
+        return unused();
+    }
+    if s.len() - 42 < p {
+        return unused();
+    }
+    Area {
+        offset: number::le32(s, p) as usize,
+        size: number::le32(s, p + 4) as usize,
+        flags: number::le16(s, p + 40),
+        name: p + 8,
+    }
 }
 
 // How many bytes of 0x21 to 0x7E the bytes begin with, up to 32.

@@ -13,9 +13,9 @@ use Rattle.terms.specs.Refusals.{Test, test, firstFailed, lengthFits}
 use Rattle.terms.proofs.Orders.{all-passed, first-both}
 use Rattle.area.specs.declared.Area.{Area}
 use Rattle.area.specs.Names.{nameFits}
-use Rattle.area.specs.Area.{sameName, extentFits, cross, holdsMap, areaTests}
+use Rattle.area.specs.Area.{unused, sameName, extentFits, cross, holdsMap, areaTests}
 use Rattle.fmap.specs.Signatures.{signatures, firstOr}
-use Rattle.fmap.specs.Fmap.{nareas, mapEnd, areasOf, most, signatureTests, headerTests, turnTests, wholeTests, testsAt, tests, unused, mapOf, refused, answer, fmapBy, fmap}
+use Rattle.fmap.specs.Fmap.{nareas, mapEnd, areasOf, most, signatureTests, headerTests, turnTests, wholeTests, testsAt, tests, mapOf, refused, answer, fmapBy, fmap}
 use Rattle.fmap.specs.declared.Map.{Map}
 use Rattle.fmap.proofs.Counting.{areas-length}
 use Rattle.fmap.proofs.Reading.{not-refused}

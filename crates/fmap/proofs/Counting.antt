@@ -10,8 +10,9 @@ use Rattle.number.proofs.Padding.{padded-none, padded-set}
 use Rattle.terms.specs.Refusals.{firstFailed}
 use Rattle.terms.proofs.Orders.{numbered, first-here, first-later}
 use Rattle.area.specs.declared.Area.{Area}
-use Rattle.area.specs.Area.{areaTests}
-use Rattle.fmap.specs.Fmap.{areaAt, areasAt, turnTests, most, unused}
+use Rattle.area.specs.Area.{areaAt, unused, areaIn, areaTests}
+use Rattle.area.proofs.Records.{area-in}
+use Rattle.fmap.specs.Fmap.{areasAt, turnTests, most}
 
 areas-zero : (s : List ℕ) (p : ℕ) → areasAt s 0 p ≡ []
 unfolding areasAt
@@ -26,60 +27,62 @@ unfolding areaTests
 area-numbered s l a = refl
 
 module _ (s : List ℕ) (k p : ℕ) where
-  pub areas-next : 0 < k → areasAt s k p ≡ areaAt s p ∷ areasAt s (k - 1) (p + 42)
-  areas-next h = go (k - 1) (omega arith)
-    where
-      go : (j : ℕ) → k ≡ suc j → areasAt s k p ≡ areaAt s p ∷ areasAt s j (p + 42)
-      go j e = rw e (areas-suc s j p)
+  -- The area a was read at p, as the first of k that lie in the bytes.
 
-  pub areas-end : k ≤ 0 → areasAt s k p ≡ []
-  areas-end h = let e : k ≡ 0 = omega arith in rw e (areas-zero s p)
+  module _ (h : 0 < k) (w : p + 42 * k ≤ length s) {a : Area} (e : a ≡ areaIn s p) where
+    areas-next : areasAt s k p ≡ a ∷ areasAt s (k - 1) (p + 42)
+    areas-next = go (k - 1) (omega arith)
+      where
+        go : (j : ℕ) → k ≡ suc j → areasAt s k p ≡ a ∷ areasAt s j (p + 42)
+        go j q = rw (q, e, area-in s p (omega arith)) (areas-suc s j p)
 
-  -- The area a that was read at p, and what was answered of it.
+    -- A test that holds of some area, and what was answered of a.
 
-  module _ {a : Area} (e : a ≡ areaAt s p) {b : Bool} where
-    -- A test that holds of some area.
-
-    pub any-here : (t : Area → Bool) → 0 < k → b ≡ t a → b ≡ true → any t (areasAt s k p) ≡ true
+    pub any-here : {b : Bool} (t : Area → Bool) → b ≡ t a → b ≡ true → any t (areasAt s k p) ≡ true
     unfolding any
-    any-here t h f y = rw (areas-next h, ← e, ← f, y)
+    any-here t f y = rw (areas-next, ← f, y)
 
-    pub any-not : (t : Area → Bool) → 0 < k → b ≡ t a → b ≡ false → any t (areasAt s k p) ≡ any t (areasAt s (k - 1) (p + 42))
+    pub any-not : {b : Bool} (t : Area → Bool) → b ≡ t a → b ≡ false → any t (areasAt s k p) ≡ any t (areasAt s (k - 1) (p + 42))
     unfolding any
-    any-not t h f y = rw (areas-next h, ← e, ← f, y)
+    any-not t f y = rw (areas-next, ← f, y)
 
-    -- A test that holds of no two areas.
+    -- A test that holds of no two areas, and what was answered of a and those after it.
 
-    pub two-here : (t : Area → Area → Bool) → 0 < k → b ≡ any (t a) (areasAt s (k - 1) (p + 42)) → b ≡ true → noTwo t (areasAt s k p) ≡ false
+    pub two-here : {b : Bool} (t : Area → Area → Bool) → b ≡ any (t a) (areasAt s (k - 1) (p + 42)) → b ≡ true → noTwo t (areasAt s k p) ≡ false
     unfolding noTwo
-    two-here t h f y = rw (areas-next h, ← e, ← f, y)
+    two-here t f y = rw (areas-next, ← f, y)
 
-    pub two-not : (t : Area → Area → Bool) → 0 < k → b ≡ any (t a) (areasAt s (k - 1) (p + 42)) → b ≡ false → noTwo t (areasAt s k p) ≡ noTwo t (areasAt s (k - 1) (p + 42))
+    pub two-not : {b : Bool} (t : Area → Area → Bool) → b ≡ any (t a) (areasAt s (k - 1) (p + 42)) → b ≡ false → noTwo t (areasAt s k p) ≡ noTwo t (areasAt s (k - 1) (p + 42))
     unfolding noTwo
-    two-not t h f y = rw (areas-next h, ← e, ← f, y)
+    two-not t f y = rw (areas-next, ← f, y)
 
-  pub any-end : (t : Area → Bool) → k ≤ 0 → any t (areasAt s k p) ≡ false
-  unfolding any
-  any-end t h = rw (areas-end h)
+    -- The areas in turn, and the refusal of a.
 
-  pub two-end : (t : Area → Area → Bool) → k ≤ 0 → noTwo t (areasAt s k p) ≡ true
-  unfolding noTwo
-  two-end t h = rw (areas-end h)
-
-  -- The areas in turn.
-
-  module _ {a : Area} (e : a ≡ areaAt s p) {n : ℕ} (l : ℕ) where
-    pub turn-here : 0 < k → n ≡ firstFailed (areaTests s l a) → (n ≡ 0 → ⊥) → firstFailed (turnTests s l (areasAt s k p)) ≡ n
+    pub turn-here : {n : ℕ} (l : ℕ) → n ≡ firstFailed (areaTests s l a) → (n ≡ 0 → ⊥) → firstFailed (turnTests s l (areasAt s k p)) ≡ n
     unfolding turnTests
-    turn-here h f z = rw (areas-next h, ← e) (first-here (areaTests s l a) _ (λ y. z (f ∙ y)) ∙ sym f)
+    turn-here l f z = rw areas-next (first-here (areaTests s l a) _ (λ y. z (f ∙ y)) ∙ sym f)
 
-    pub turn-not : 0 < k → n ≡ firstFailed (areaTests s l a) → n ≡ 0 → firstFailed (turnTests s l (areasAt s k p)) ≡ firstFailed (turnTests s l (areasAt s (k - 1) (p + 42)))
+    pub turn-not : {n : ℕ} (l : ℕ) → n ≡ firstFailed (areaTests s l a) → n ≡ 0 → firstFailed (turnTests s l (areasAt s k p)) ≡ firstFailed (turnTests s l (areasAt s (k - 1) (p + 42)))
     unfolding turnTests
-    turn-not h f z = rw (areas-next h, ← e) (first-later (areaTests s l a) _ (area-numbered s l a) (sym f ∙ z))
+    turn-not l f z = rw areas-next (first-later (areaTests s l a) _ (area-numbered s l a) (sym f ∙ z))
 
-  pub turn-end : (l : ℕ) → k ≤ 0 → firstFailed (turnTests s l (areasAt s k p)) ≡ 0
-  unfolding turnTests
-  turn-end l h = rw (areas-end h)
+  -- No area is left.
+
+  module _ (h : k ≤ 0) where
+    areas-end : areasAt s k p ≡ []
+    areas-end = let e : k ≡ 0 = omega arith in rw e (areas-zero s p)
+
+    pub any-end : (t : Area → Bool) → any t (areasAt s k p) ≡ false
+    unfolding any
+    any-end t = rw areas-end
+
+    pub two-end : (t : Area → Area → Bool) → noTwo t (areasAt s k p) ≡ true
+    unfolding noTwo
+    two-end t = rw areas-end
+
+    pub turn-end : (l : ℕ) → firstFailed (turnTests s l (areasAt s k p)) ≡ 0
+    unfolding turnTests
+    turn-end l = rw areas-end
 
 -- How many there are, and one more at the end.
 
@@ -100,9 +103,9 @@ areas-last s (suc k) p =
 pub padded-start : (s : List ℕ) (from : ℕ) {u : Area} → u ≡ unused → replicate most u ≡ padded most unused (areasAt s 0 from)
 padded-start s from e = padded-none most unused e ∙ ap (padded most unused) (sym (areas-zero s from))
 
-pub padded-next : (s : List ℕ) (from i p : ℕ) {l : List Area} {a : Area} → i < most → p ≡ from + 42 * i → l ≡ padded most unused (areasAt s i from) → a ≡ areaAt s p
+pub padded-next : (s : List ℕ) (from i p : ℕ) {l : List Area} {a : Area} → i < most → p ≡ from + 42 * i → l ≡ padded most unused (areasAt s i from) → a ≡ areaIn s p → p + 42 ≤ length s
     → set l i a ≡ padded most unused (areasAt s (i + 1) from)
-padded-next s from i p {l} {a} h q e f =
+padded-next s from i p {l} {a} h q e f w =
     let n : length (areasAt s i from) ≡ i = areas-length s i from in
     let o : i + 1 ≡ suc i = omega arith in
-    rw (e, f, q, o, areas-last s i from) (rw n at (padded-set most unused (areasAt s i from) (areaAt s (from + 42 * i)) (omega arith)))
+    rw (e, f, area-in s p w, q, o, areas-last s i from) (rw n at (padded-set most unused (areasAt s i from) (areaAt s (from + 42 * i)) (omega arith)))

@@ -13,9 +13,9 @@ use Rattle.number.proofs.Padding.{padded-none}
 use Rattle.terms.specs.Refusals.{Test, test, firstFailed, lengthFits}
 use Rattle.terms.proofs.Orders.{numbered, all-passed, first-here, first-later, first-both}
 use Rattle.area.specs.declared.Area.{Area}
-use Rattle.area.specs.Area.{sameName, cross, holdsMap, areaTests}
+use Rattle.area.specs.Area.{unused, sameName, cross, holdsMap, areaTests}
 use Rattle.fmap.specs.Signatures.{signatures, found}
-use Rattle.fmap.specs.Fmap.{minor, base, nareas, mapEnd, areasAt, areasOf, most, countFits, signatureTests, headerTests, turnTests, wholeTests, testsAt, tests, unused, mapOf, refused, answer, mapAt, fmapBy, fmap}
+use Rattle.fmap.specs.Fmap.{minor, base, nareas, mapEnd, areasAt, areasOf, most, countFits, signatureTests, headerTests, turnTests, wholeTests, testsAt, tests, mapOf, refused, answer, mapAt, fmapBy, fmap}
 use Rattle.fmap.specs.declared.Map.{Map}
 use Rattle.fmap.specs.declared.Found.the-variants.{Nothing, At, Several}
 

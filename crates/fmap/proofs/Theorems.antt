@@ -11,10 +11,10 @@ use Rattle.number.proofs.SameBytes.{eq-true, eq-refl}
 use Rattle.number.proofs.Tested.{any-some, two-none}
 use Rattle.terms.specs.Refusals.{firstFailed}
 use Rattle.area.specs.Names.{nameAt}
-use Rattle.area.specs.Area.{sameName, cross, holdsMap}
+use Rattle.area.specs.Area.{unused, sameName, cross, holdsMap}
 use Rattle.area.proofs.Facts.{Inside, Fit, ApartOrNested, Own, extent, fit, turned, uncrossed, own, unnamed}
 use Rattle.fmap.specs.Signatures.{signature, signed, signedAt, signaturesFrom, signatures}
-use Rattle.fmap.specs.Fmap.{nareas, mapEnd, tests, unused, refused, fmapBy, fmap}
+use Rattle.fmap.specs.Fmap.{nareas, mapEnd, tests, refused, fmapBy, fmap}
 use Rattle.fmap.proofs.Signing.{signs-sound, signs-complete}
 use Rattle.fmap.proofs.Counting.{areas-length}
 use Rattle.fmap.proofs.Reading.{headed}

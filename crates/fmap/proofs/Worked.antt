@@ -11,9 +11,9 @@ use Rattle.number.specs.Tests.{every}
 use Rattle.number.specs.Lists.{any, noTwo, padded}
 use Rattle.terms.specs.Refusals.{lengthFits}
 use Rattle.area.specs.Names.{printed, nameTests, nameFits, nameOf}
-use Rattle.area.specs.Area.{bears, extentFits, disjoint, holds, cross, ownName, ownTests, holdsMap, areaTests}
+use Rattle.area.specs.Area.{areaAt, unused, bears, extentFits, disjoint, holds, cross, ownName, ownTests, holdsMap, areaTests}
 use Rattle.fmap.specs.Signatures.{signature, signed, signedAt, placesFrom, signaturesAt, signaturesFrom}
-use Rattle.fmap.specs.Fmap.{areaAt, areasAt, countFits, signatureTests, headerTests, turnTests, wholeTests, testsAt, tests, unused, mapOf, refused, answer, fmapBy, fmap}
+use Rattle.fmap.specs.Fmap.{areasAt, countFits, signatureTests, headerTests, turnTests, wholeTests, testsAt, tests, mapOf, refused, answer, fmapBy, fmap}
 
 -- Of 001's two numbers for the signature, this is the little-endian one.
 signature-number : le 8 signature 0 ≡ 0x5F5F50414D465F5F

@@ -10,7 +10,7 @@ use Rattle.number.specs.Tests.{every}
 use Rattle.number.specs.Lists.{any, noTwo, padded}
 use Rattle.terms.specs.Refusals.{Test, test, firstFailed, lengthFits}
 use Rattle.area.specs.declared.Area.{Area}
-use Rattle.area.specs.Area.{sameName, cross, holdsMap, areaTests}
+use Rattle.area.specs.Area.{areaAt, unused, sameName, cross, holdsMap, areaTests}
 use Rattle.fmap.specs.Signatures.{signatures, firstOr}
 use Rattle.fmap.specs.declared.Map.{Map}
 
@@ -34,10 +34,6 @@ nareas s at = le 2 s (at + 54)
 -- Where the map ends: after its last area.
 abbrev pub mapEnd : List ℕ → ℕ → ℕ
 mapEnd s at = at + 56 + 42 * nareas s at
-
--- An area, 42 bytes: offset, size, name, flags. Of the name its place is told.
-unfoldable pub areaAt : List ℕ → ℕ → Area
-areaAt s p = record { offset = le 4 s p; size = le 4 s (p + 4); flags = le 2 s (p + 40); name = p + 8 }
 
 -- k areas, the first at p.
 unfoldable pub areasAt : List ℕ → ℕ → ℕ → List Area
@@ -93,9 +89,6 @@ unfoldable pub tests : List ℕ → List ℕ → List Test
 tests i ps = test 1 (lengthFits i) ∷ (signatureTests ps ++ testsAt i (firstOr 0 ps) (length i))
 
 -- What is answered: records of areas, 256 of them, unused ones zero.
-
-abbrev pub unused : Area
-unused = record { offset = 0; size = 0; flags = 0; name = 0 }
 
 unfoldable pub mapOf : List ℕ → ℕ → Map
 mapOf s at = record {

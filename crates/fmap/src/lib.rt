@@ -7,9 +7,9 @@ ghost use lib.Dec.{leb};
 ghost use Rattle.number.specs.Lists.{any, noTwo, padded};
 ghost use Rattle.terms.specs.Refusals.{firstFailed};
 ghost use Rattle.area.specs.Names.{nameAt};
-ghost use Rattle.area.specs.Area.{bears, sameName, cross, holdsMap};
+ghost use Rattle.area.specs.Area.{unused, bears, sameName, cross, holdsMap};
 ghost use Rattle.fmap.specs.Signatures.{signed as signedOf, signatures as signaturesOf, signaturesFrom, firstOr, found};
-ghost use Rattle.fmap.specs.Fmap.{areaAt, areasAt, areasOf, most, countFits, mapEnd, nareas, headerTests, turnTests, wholeTests, testsAt, unused as unusedOf, mapOf, refused as refusedOf, mapAt, fmap};
+ghost use Rattle.fmap.specs.Fmap.{areasAt, areasOf, most, countFits, mapEnd, nareas, headerTests, turnTests, wholeTests, testsAt, mapOf, refused as refusedOf, mapAt, fmap};
 
 // How many areas a map may have.
 const MOST: usize = 256;
@@ -83,19 +83,6 @@ pub fn name(image: &[u8], area: Area) -> &[u8]
     area::name(image, area)
 }
 
-// The area that stands at p, of which 42 bytes lie in s.
-fn area_at(s: &[u8], p: usize) -> Area
-    requires { ⌜ p + 42 ≤ length (now s) ⌝ }
-    ensures { λ r. ⌜ r ≡ areaAt (now (s .entry)) p ⌝ }
-{
-    Area {
-        offset: number::le32(s, p) as usize,
-        size: number::le32(s, p + 4) as usize,
-        flags: number::le16(s, p + 40),
-        name: p + 8,
-    }
-}
-
 // Test 29: the header and as many areas as it states lie in the bytes.
 fn map_fits(s: &[u8], at: usize) -> bool
     ensures { λ r. ⌜ r ≡ leb (mapEnd (now (s .entry)) at) (length (now (s .entry))) ⌝ }
@@ -133,7 +120,7 @@ fn turn_refusal(s: &[u8], size: usize, from: usize, count: usize) -> u32
     let mut p = from;
     let mut k = count;
     while 0 < k {
-        let n = area::refusal(s, size, area_at(s, p));
+        let n = area::refusal(s, size, area::at(s, p));
         if n != 0 {
             return n;
         }
@@ -151,7 +138,7 @@ fn name_borne(s: &[u8], name: &[u8], from: usize, count: usize) -> bool
     let mut p = from;
     let mut k = count;
     while 0 < k {
-        if area::bears(s, name, area_at(s, p)) {
+        if area::bears(s, name, area::at(s, p)) {
             return true;
         }
         p += 42;
@@ -168,7 +155,7 @@ fn names_differ(s: &[u8], from: usize, count: usize) -> bool
     let mut p = from;
     let mut k = count;
     while 0 < k {
-        let a = area_at(s, p);
+        let a = area::at(s, p);
         p += 42;
         k -= 1;
         if name_borne(s, area::name(s, a), p, k) {
@@ -186,7 +173,7 @@ fn crossed(s: &[u8], a: Area, from: usize, count: usize) -> bool
     let mut p = from;
     let mut k = count;
     while 0 < k {
-        if area::cross(a, area_at(s, p)) {
+        if area::cross(a, area::at(s, p)) {
             return true;
         }
         p += 42;
@@ -203,7 +190,7 @@ fn none_cross(s: &[u8], from: usize, count: usize) -> bool
     let mut p = from;
     let mut k = count;
     while 0 < k {
-        let a = area_at(s, p);
+        let a = area::at(s, p);
         p += 42;
         k -= 1;
         if crossed(s, a, p, k) {
@@ -221,7 +208,7 @@ fn map_held(s: &[u8], at: usize, end: usize, from: usize, count: usize) -> bool
     let mut p = from;
     let mut k = count;
     while 0 < k {
-        if area::holds_map(s, at, end, area_at(s, p)) {
+        if area::holds_map(s, at, end, area::at(s, p)) {
             return true;
         }
         p += 42;
@@ -283,28 +270,16 @@ fn refusal_at(s: &[u8], at: usize, size: usize) -> u32
     whole_refusal(s, at, count)
 }
 
-// An area that is not used.
-fn unused() -> Area
-    ensures { λ r. ⌜ r ≡ unusedOf ⌝ }
-{
-    Area {
-        offset: 0,
-        size: 0,
-        flags: 0,
-        name: 0,
-    }
-}
-
 // The `count` areas from `from` on, and unused ones after them.
 fn areas(s: &[u8], from: usize, count: usize) -> [Area; MOST]
     requires { ⌜ (from + 42 * count ≤ length (now s)) × (count ≤ 256) ⌝ }
-    ensures { λ r. ⌜ r ≡ padded most unusedOf (areasAt (now (s .entry)) count from) ⌝ }
+    ensures { λ r. ⌜ r ≡ padded most unused (areasAt (now (s .entry)) count from) ⌝ }
 {
-    let mut all = [unused(); MOST];
+    let mut all = [area::unused(); MOST];
     let mut p = from;
     let mut i = 0;
     while i < count {
-        all[i] = area_at(s, p);
+        all[i] = area::at(s, p);
         p += 42;
         i += 1;
     }
@@ -337,7 +312,7 @@ fn refused(number: u32) -> Map
         minor: 0,
         base: 0,
         count: 0,
-        areas: [unused(); MOST],
+        areas: [area::unused(); MOST],
     }
 }
 

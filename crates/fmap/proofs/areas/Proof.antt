@@ -2,7 +2,8 @@ use Prim.Native.Nat.{ℕ, _+_, _*_, _-_, _≤_}
 use mathlib.Core.Path.{_≡_, ap, _∙_}
 use native.Mathlib.Omega.{arith}
 use Rattle.number.specs.Lists.{padded}
-use Rattle.fmap.specs.Fmap.{areasAt, most, unused}
+use Rattle.area.specs.Area.{unused}
+use Rattle.fmap.specs.Fmap.{areasAt, most}
 use Rattle.fmap.proofs.Counting.{padded-start, padded-next}
 use borrow.Author.Needs.{needs}
 use Rattle.fmap.proofs.areas.Statement.{statement}
@@ -20,8 +21,8 @@ unused-requires c κs = search needs
 loop-holds : tie.Need-loop-holds Inv-loop μ-loop
 loop-holds c = (search needs, search needs, padded-start _ _ (c .unused .ensures))
 
-area-at-requires : tie.Need-area-at-requires Inv-loop μ-loop
-area-at-requires c κs = search needs
+at-requires : tie.Need-at-requires Inv-loop μ-loop
+at-requires c κs = search needs
 
 mul-all : tie.Need-mul-all Inv-loop μ-loop
 mul-all c = search needs
@@ -42,7 +43,7 @@ loop-again : tie.Need-loop-again Inv-loop μ-loop
 loop-again c =
     let l = c .before .before in
     let a = l .before .before .before .args in
-    (omega arith, omega arith, padded-next (a .s .now) (a .from) (l .loop .i) (l .loop .p) (omega arith) (l .loop .inv .1) (l .loop .inv .2) (c .area-at .ensures))
+    (omega arith, omega arith, padded-next (a .s .now) (a .from) (l .loop .i) (l .loop .p) (omega arith) (l .loop .inv .1) (l .loop .inv .2) (c .at .ensures .0) (omega arith))
 
 returns : tie.Need-returns Inv-loop μ-loop
 returns c =
@@ -59,7 +60,7 @@ areas-spec =
     μ-loop
     unused-requires
     loop-holds
-    area-at-requires
+    at-requires
     mul-all
     array-set-from-all
     add-p

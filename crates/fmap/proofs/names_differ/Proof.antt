@@ -20,8 +20,8 @@ abbrev μ-loop : tie.MeasureT-loop
 loop-holds : tie.Need-loop-holds Inv-loop μ-loop
 loop-holds c = (search needs, refl)
 
-area-at-requires : tie.Need-area-at-requires Inv-loop μ-loop
-area-at-requires c κs = search needs
+at-requires : tie.Need-at-requires Inv-loop μ-loop
+at-requires c κs = search needs
 
 add-p : tie.Need-add-p Inv-loop μ-loop
 add-p c = search needs
@@ -40,7 +40,7 @@ returns c =
     let r = c .before .before .before in
     let l = r .before .before in
     let a = l .before .before .args in
-    sym (l .loop .inv .1 ∙ two-here (a .s .now) (l .loop .k) (l .loop .p) (r .area-at .ensures) (sameName (a .s .now)) (omega arith) (c .before .name-borne .ensures ∙ ap (λ (n : List ℕ). any (bears (a .s .now) n) (areasAt (a .s .now) (l .loop .k - 1) (l .loop .p + 42))) (c .before .before .name .ensures .0)) (c .if1 .taken))
+    sym (l .loop .inv .1 ∙ two-here (a .s .now) (l .loop .k) (l .loop .p) (omega arith) (l .loop .inv .0) (r .at .ensures .0) (sameName (a .s .now)) (c .before .name-borne .ensures ∙ ap (λ (n : List ℕ). any (bears (a .s .now) n) (areasAt (a .s .now) (l .loop .k - 1) (l .loop .p + 42))) (c .before .before .name .ensures .0)) (c .if1 .taken))
 
 loop-less : tie.Need-loop-less Inv-loop μ-loop
 loop-less c = search needs
@@ -50,13 +50,13 @@ loop-again c =
     let r = c .before .before .before in
     let l = r .before .before in
     let a = l .before .before .args in
-    (omega arith, l .loop .inv .1 ∙ two-not (a .s .now) (l .loop .k) (l .loop .p) (r .area-at .ensures) (sameName (a .s .now)) (omega arith) (c .before .name-borne .ensures ∙ ap (λ (n : List ℕ). any (bears (a .s .now) n) (areasAt (a .s .now) (l .loop .k - 1) (l .loop .p + 42))) (c .before .before .name .ensures .0)) (c .if1 .left))
+    (omega arith, l .loop .inv .1 ∙ two-not (a .s .now) (l .loop .k) (l .loop .p) (omega arith) (l .loop .inv .0) (r .at .ensures .0) (sameName (a .s .now)) (c .before .name-borne .ensures ∙ ap (λ (n : List ℕ). any (bears (a .s .now) n) (areasAt (a .s .now) (l .loop .k - 1) (l .loop .p + 42))) (c .before .before .name .ensures .0)) (c .if1 .left))
 
 returns-2 : tie.Need-returns-2 Inv-loop μ-loop
 returns-2 c =
     let l = c .before in
     let a = l .before .before .args in
-    sym (l .loop .inv .1 ∙ two-end (a .s .now) (l .loop .k) (l .loop .p) (sameName (a .s .now)) (omega arith))
+    sym (l .loop .inv .1 ∙ two-end (a .s .now) (l .loop .k) (l .loop .p) (omega arith) (sameName (a .s .now)))
 
 pub names-differ-spec : {M : Type 1} → statement M
 names-differ-spec =
@@ -65,7 +65,7 @@ names-differ-spec =
     Inv-loop
     μ-loop
     loop-holds
-    area-at-requires
+    at-requires
     add-p
     sub-k
     name-requires

@@ -18,8 +18,8 @@ abbrev μ-loop : tie.MeasureT-loop
 loop-holds : tie.Need-loop-holds Inv-loop μ-loop
 loop-holds c = (search needs, refl)
 
-area-at-requires : tie.Need-area-at-requires Inv-loop μ-loop
-area-at-requires c κs = search needs
+at-requires : tie.Need-at-requires Inv-loop μ-loop
+at-requires c κs = search needs
 
 refusal-requires : tie.Need-refusal-requires Inv-loop μ-loop
 refusal-requires c κs = search needs
@@ -29,7 +29,7 @@ returns c =
     let r = c .before .before in
     let l = r .before .before in
     let a = l .before .before .args in
-    sym (l .loop .inv .1 ∙ turn-here (a .s .now) (l .loop .k) (l .loop .p) (r .area-at .ensures) (a .size) (omega arith) (c .before .refusal .ensures .0) (c .if1 .taken))
+    sym (l .loop .inv .1 ∙ turn-here (a .s .now) (l .loop .k) (l .loop .p) (omega arith) (l .loop .inv .0) (r .at .ensures .0) (a .size) (c .before .refusal .ensures .0) (c .if1 .taken))
 
 add-p : tie.Need-add-p Inv-loop μ-loop
 add-p c = search needs
@@ -45,13 +45,13 @@ loop-again c =
     let r = c .before .before in
     let l = r .before .before in
     let a = l .before .before .args in
-    (omega arith, l .loop .inv .1 ∙ turn-not (a .s .now) (l .loop .k) (l .loop .p) (r .area-at .ensures) (a .size) (omega arith) (c .before .refusal .ensures .0) (c .if1 .left))
+    (omega arith, l .loop .inv .1 ∙ turn-not (a .s .now) (l .loop .k) (l .loop .p) (omega arith) (l .loop .inv .0) (r .at .ensures .0) (a .size) (c .before .refusal .ensures .0) (c .if1 .left))
 
 returns-2 : tie.Need-returns-2 Inv-loop μ-loop
 returns-2 c =
     let l = c .before in
     let a = l .before .before .args in
-    sym (l .loop .inv .1 ∙ turn-end (a .s .now) (l .loop .k) (l .loop .p) (a .size) (omega arith))
+    sym (l .loop .inv .1 ∙ turn-end (a .s .now) (l .loop .k) (l .loop .p) (omega arith) (a .size))
 
 pub turn-refusal-spec : {M : Type 1} → statement M
 turn-refusal-spec =
@@ -60,7 +60,7 @@ turn-refusal-spec =
     Inv-loop
     μ-loop
     loop-holds
-    area-at-requires
+    at-requires
     refusal-requires
     returns
     add-p
