@@ -103,7 +103,7 @@ own s at e a h = record { name = eq-true _ _ (p 0); from = leb-true _ _ (p 1); e
     p : (k : ℕ) → getD (ownTests s at e a) k true ≡ true
     p k = passes k (ownTests s at e a) h
 
--- Areas that are told to have different names.
-pub unnamed : (s : List ℕ) (a b : Area) → sameName s a b ≡ false → nameAt s (a .name) ≡ nameAt s (b .name) → ⊥
+-- Areas that do not have the same name.
+pub differing : (s : List ℕ) (a b : Area) → sameName s a b ≡ false → nameAt s (a .name) ≡ nameAt s (b .name) → ⊥
 unfolding bears
-unnamed s a b e q = true≢false (sym (rw q (eq-refl (nameAt s (b .name)))) ∙ e)
+differing s a b e q = true≢false (sym (rw q (eq-refl (nameAt s (b .name)))) ∙ e)

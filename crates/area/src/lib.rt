@@ -1,5 +1,5 @@
-// An area of a flash map, by itself and beside another (document 01, "Flash map"): its name, its extent, and refusals 33 to 37 as far as they are about one area or two.
-// Every sum is compared by differences, so that no numbers overflow.
+// An area of a flash map, by itself and beside another (document 01, "Flash map"): its record, its name, and refusals 33 to 37 as far as they are about one area or two.
+// Ends of areas are compared by differences, so that no numbers overflow.
 ghost use mathlib.Core.Path.{_≡_};
 ghost use Prim.Native.Nat.{min};
 ghost use lib.ListN.{length};

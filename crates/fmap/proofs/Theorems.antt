@@ -12,7 +12,7 @@ use Rattle.number.proofs.Tested.{any-some, two-none}
 use Rattle.terms.specs.Refusals.{firstFailed}
 use Rattle.area.specs.Names.{nameAt}
 use Rattle.area.specs.Area.{unused, sameName, cross, holdsMap}
-use Rattle.area.proofs.Facts.{Inside, Fit, ApartOrNested, Own, extent, fit, turned, uncrossed, own, unnamed}
+use Rattle.area.proofs.Facts.{Inside, Fit, ApartOrNested, Own, extent, fit, turned, uncrossed, own, differing}
 use Rattle.fmap.specs.Signatures.{signature, signed, signedAt, signaturesFrom, signatures}
 use Rattle.fmap.specs.Fmap.{nareas, mapEnd, tests, refused, fmapBy, fmap}
 use Rattle.fmap.proofs.Signing.{signs-sound, signs-complete}
@@ -62,7 +62,7 @@ module _ (i : List ℕ) (ok : (fmap i) .number ≡ 0) where
       same = rw (area-is i ok j f, area-is i ok k h) at e
 
       differ : (j k : ℕ) → j < k → k < (fmap i) .count → nameAt i ((nth i j) .name) ≡ nameAt i ((nth i k) .name) → ⊥
-      differ j k l h = unnamed i (nth i j) (nth i k) (two-none unused (sameName i) (areas i) (wholes i ok .0) j k l (long i ok k h))
+      differ j k l h = differing i (nth i j) (nth i k) (two-none unused (sameName i) (areas i) (wholes i ok .0) j k l (long i ok k h))
 
       by : Dec (j < k) → Dec (k < j) → j ≡ k
       by (yes l) d = absurd (differ j k l h same)

@@ -35,7 +35,7 @@ nareas s at = le 2 s (at + 54)
 abbrev pub mapEnd : List ℕ → ℕ → ℕ
 mapEnd s at = at + 56 + 42 * nareas s at
 
--- k areas, the first at p.
+-- k areas of 42 bytes, the first at p.
 unfoldable pub areasAt : List ℕ → ℕ → ℕ → List Area
 areasAt s zero p = []
 areasAt s (suc k) p = areaAt s p ∷ areasAt s k (p + 42)

@@ -45,9 +45,3 @@ abbrev pub found : List ℕ → Found
 found [] = Nothing
 found (p ∷ []) = At p
 found (p ∷ q ∷ ps) = Several
-
--- The refusal of what is found, or 0.
-abbrev pub numberOf : Found → ℕ
-numberOf Nothing = 27
-numberOf (At p) = 0
-numberOf Several = 28
