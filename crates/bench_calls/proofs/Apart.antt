@@ -7,9 +7,10 @@ use mathlib.Core.Bool.{Bool, true, false}
 use borrow.Author.Tests.{ne-eqb}
 use Rattle.number.specs.Lists.{keep}
 use Rattle.walk.specs.Walk.{Entry, plainListing, guardedListing}
-use Rattle.walk.specs.Lookup.{Answer, refused, gives, bears, foremost, only, lookupOf}
+use Rattle.lookup.specs.Lookup.{Answer, refused, gives, bears, foremost, only, lookupOf}
 use Rattle.walk.specs.declared.Taken.{Taken}
-use Rattle.walk.proofs.Members.{given, lookup-member}
+use Rattle.walk.proofs.Members.{given}
+use Rattle.lookup.proofs.Answers.{lookup-member}
 use Rattle.terms.specs.Terms.{bytesOf, refusedBy}
 use Rattle.terms.specs.declared.Region.{Region}
 use Rattle.terms.specs.declared.Refusal.{Refusal}

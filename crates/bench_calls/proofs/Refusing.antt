@@ -6,7 +6,7 @@ use mathlib.Core.List.{List}
 use mathlib.Core.Logic.{_⊎_, inl, inr}
 use mathlib.Core.Bool.{Bool}
 use lib.ListN.{length}
-use Rattle.walk.specs.Lookup.{Answer, refused, gives, lookupOf}
+use Rattle.lookup.specs.Lookup.{Answer, refused, gives, lookupOf}
 use Rattle.walk.proofs.Picks.{carries-fits}
 use Rattle.terms.specs.Terms.{bytesOf, refusedBy}
 use Rattle.terms.specs.declared.Region.{Region}

@@ -9,14 +9,14 @@ use lib.ListN.{length, getD}
 use lib.Dec.{eqb, ltb, leb}
 use borrow.Author.Tests.{leb-true, eq-eqb, ne-eqb, eqb-true, eqb-false, lt-ltb, le-ltb, ltb-true, ltb-false}
 use Rattle.walk.specs.Walk.{Entry, end, plainListing, guardedListing}
-use Rattle.walk.specs.Lookup.{Answer, refused, gives, lookupOf}
+use Rattle.lookup.specs.Lookup.{Answer, refused, gives, lookupOf}
 use Rattle.terms.specs.Terms.{bytesOf, refusedBy}
 use Rattle.terms.specs.declared.Region.{Region}
 use Rattle.master.specs.Master.{master}
 use Rattle.master.specs.declared.Master.the-variants.{Read}
 use Rattle.master.proofs.Facts.{Known, known, same-region}
 use Rattle.strict.specs.Strict.{limit, Accepted}
-use Rattle.strict.proofs.Keeping.{both-true}
+use Rattle.number.proofs.Tested.{both-true}
 use Rattle.strict.specs.Slots.{start, within, hit}
 use Rattle.edit.specs.Edit.{Bytes, spanBytes, putIn, instead, without, add, replace, remove}
 use Rattle.edit.proofs.Outcomes.{Finds, Others, Added, Replaced, Removed}

@@ -8,7 +8,7 @@ use mathlib.Core.Bool.{true, cond}
 use lib.ListN.{length}
 use lib.Dec.{eqb}
 use Rattle.walk.specs.Walk.{carries, plainListing}
-use Rattle.walk.proofs.Places.{Place}
+use Rattle.walk.specs.Walk.{Place}
 use Rattle.terms.specs.Terms.{bytesOf, refusedBy}
 use Rattle.terms.specs.declared.Region.{Region}
 use Rattle.terms.specs.declared.Refusal.{Refusal}

@@ -9,7 +9,7 @@ use lib.Dec.{leb}
 use borrow.Author.Tests.{le-ltb}
 use Rattle.number.specs.Lists.{any, keep}
 use Rattle.walk.specs.Walk.{Entry, end, guardedListing}
-use Rattle.walk.specs.Lookup.{refused, gives, bears, only, guardedLookup}
+use Rattle.lookup.specs.Lookup.{refused, gives, bears, only, guardedLookup}
 use Rattle.walk.proofs.Members.{given}
 use Rattle.strict.specs.Strict.{Accepted}
 use Rattle.strict.specs.Slots.{hit, Spoilt, Kept}

@@ -6,10 +6,12 @@ use mathlib.Core.List.{List, map, List·Memᴰ}
 use mathlib.Core.Logic.{_↔_}
 use mathlib.Core.Bool.{Bool, true, false}
 use Rattle.walk.specs.Walk.{Entry, placesBelow, pickOf, listing, plainListing, guardedListing}
-use Rattle.walk.specs.Lookup.{Answer, refused, gives, bears, plainLookup}
+use Rattle.lookup.specs.Lookup.{Answer, refused, gives, bears, plainLookup}
 use Rattle.walk.specs.declared.Taken.{Taken}
-use Rattle.walk.proofs.Rounding.{Rounded, rounded}
-use Rattle.walk.proofs.Bearers.{FirstBearer, first-bearer, no-bearer}
+use Rattle.walk.specs.Walk.{Rounded}
+use Rattle.walk.proofs.Rounding.{rounded}
+use Rattle.lookup.specs.Lookup.{FirstBearer}
+use Rattle.lookup.proofs.Bearers.{first-bearer, no-bearer}
 use Rattle.terms.specs.Terms.{bytesOf, refusedBy}
 use Rattle.terms.specs.declared.Region.{Region}
 use Rattle.terms.specs.declared.Refusal.{Refusal}

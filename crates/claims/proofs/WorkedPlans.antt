@@ -11,7 +11,7 @@ use Rattle.component.specs.Names.{nameTests, nameFits, beforeZero, fieldTests, 
 use Rattle.component.specs.Component.{magic, startsWithMagic, componentOf, headerTests, wellFormed, fields, judge}
 use Rattle.number.specs.Lists.{any, keep, padded}
 use Rattle.walk.specs.Walk.{placesBelow, places, carries, buried, unless, guarded, orElse, first, step, onward, follow, steps, listingFrom}
-use Rattle.walk.specs.Lookup.{bears, only}
+use Rattle.lookup.specs.Lookup.{bears, only}
 use Rattle.terms.specs.Terms.{bytesOf}
 use Rattle.terms.specs.Refusals.{lengthFits}
 use Rattle.master.specs.Master.{headerAt, addressFits, bootblockFits, alignFits, offsetFits, tests, refusal, master}

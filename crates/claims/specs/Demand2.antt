@@ -8,7 +8,7 @@ use lib.ListN.{length, getD}
 use lib.Dec.{eqb}
 use Rattle.walk.specs.Walk.{Entry, end, pickOf, listing}
 use Rattle.walk.specs.declared.Taken.{Taken}
-use Rattle.walk.proofs.Places.{Place}
+use Rattle.walk.specs.Walk.{Place}
 use Rattle.terms.specs.Terms.{bytesOf, refusedBy}
 use Rattle.terms.specs.declared.Region.{Region}
 use Rattle.master.specs.Master.{master}

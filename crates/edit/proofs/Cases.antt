@@ -11,7 +11,7 @@ use Rattle.component.specs.Names.{beforeZero, nameTests, nameFits, fieldTests, 
 use Rattle.component.specs.Component.{magic, startsWithMagic, componentOf, headerTests, wellFormed, fields, judge}
 use Rattle.number.specs.Lists.{any, keep}
 use Rattle.walk.specs.Walk.{Entry, placesBelow, places, carries, buried, plain, orElse, first, onward, step, follow, steps, listingFrom, plainListing}
-use Rattle.walk.specs.Lookup.{bears}
+use Rattle.lookup.specs.Lookup.{bears}
 use Rattle.strict.specs.Strict.{takes, stray, strays, toldApart, Accepted}
 use Rattle.strict.specs.Slots.{start}
 use Rattle.edit.specs.Edit.{fieldSize, offsetFor, headerBytes, fieldBytes, spanBytes, buries, runs, lowest, slotOf, adding, renewing, clearing, Reply, refusal, done, Outcome, carriedOut, add, replace, remove}

@@ -12,7 +12,7 @@ use borrow.Author.Tests.{ltb-true, ltb-false}
 use Rattle.component.specs.Names.{nameFits}
 use Rattle.number.specs.Lists.{any}
 use Rattle.walk.specs.Walk.{Entry, plainListing}
-use Rattle.walk.specs.Lookup.{bears}
+use Rattle.lookup.specs.Lookup.{bears}
 use Rattle.strict.specs.Strict.{Accepted, Verdict, refused, accepted, verdict, placesOf}
 use Rattle.strict.proofs.Verdicts.{accepted-exactly, no-other}
 use Rattle.edit.specs.Edit.{Run, holds, runs, lowest, Slot, slotOf, buries, spanBytes, Decision, refuse, write, afterCheck, adding, renewing, clearing, filled, refusal, done, carriedOut}

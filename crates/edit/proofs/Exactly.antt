@@ -12,9 +12,10 @@ use borrow.Author.Tests.{lt-ltb, le-ltb, eq-eqb, ne-eqb}
 use Rattle.component.specs.Names.{nameFits}
 use Rattle.number.specs.Lists.{any}
 use Rattle.walk.specs.Walk.{Entry, end, plainListing, guardedListing}
-use Rattle.walk.specs.Lookup.{bears, gives}
-use Rattle.walk.proofs.Places.{Place, any-false}
-use Rattle.walk.proofs.Members.{lookup-member}
+use Rattle.lookup.specs.Lookup.{bears, gives}
+use Rattle.walk.specs.Walk.{Place}
+use Rattle.number.proofs.Tested.{any-false}
+use Rattle.lookup.proofs.Answers.{lookup-member}
 use Rattle.strict.specs.Strict.{Accepted, verdict}
 use Rattle.strict.proofs.Accepting.{walks-agree}
 use Rattle.edit.specs.Edit.{Free, Run, holds, runs, Slot, slotOf, freeRuns, lowest, buries, spanBytes, Decision, refuse, afterCheck, adding, renewing, clearing, refusal, done, carriedOut, add, replace, remove, putIn, without}

@@ -16,9 +16,9 @@ use Rattle.number.proofs.SameBytes.{eq-true}
 use Rattle.component.specs.Component.{Component, span, magic, startsWithMagic}
 use Rattle.number.specs.Lists.{keep}
 use Rattle.walk.specs.Walk.{Entry, end, carries, plain, guarded, guardedListing}
-use Rattle.walk.proofs.Places.{Place}
+use Rattle.walk.specs.Walk.{Place}
 use Rattle.walk.proofs.Picks.{carries-fits, buried-false, buried-of, guarded-of, guarded-carries}
-use Rattle.strict.proofs.Keeping.{both-true}
+use Rattle.number.proofs.Tested.{both-true}
 use Rattle.strict.proofs.Frames.{Sound, Frame, mem-guarded, guarded-mem, place-far, same-rest, still-sound}
 use Rattle.strict.proofs.Slots.{guarded-rising}
 use Rattle.edit.specs.Edit.{Run, buries, spanBytes, filled, putIn}

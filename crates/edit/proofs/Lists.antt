@@ -12,11 +12,11 @@ use Rattle.number.specs.Bytes.{eqBytes}
 use Rattle.number.proofs.SameBytes.{eq-true, eq-refl}
 use Rattle.number.specs.Lists.{any, keep}
 use Rattle.walk.specs.Walk.{Entry}
-use Rattle.walk.specs.Lookup.{bears}
-use Rattle.walk.proofs.Places.{any-false, none-any, or-false}
-use Rattle.walk.proofs.Members.{mem-keep}
+use Rattle.lookup.specs.Lookup.{bears}
+use Rattle.number.proofs.Tested.{any-false, none-any, or-false}
+use Rattle.number.proofs.Tested.{mem-keep}
 use Rattle.strict.specs.Strict.{toldApart}
-use Rattle.strict.proofs.Keeping.{both-true, keep-comm}
+use Rattle.number.proofs.Tested.{both-true, keep-comm}
 use Rattle.strict.proofs.Slots.{Rising}
 use Rattle.edit.specs.Edit.{putIn, instead, without}
 

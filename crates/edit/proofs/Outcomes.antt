@@ -11,12 +11,12 @@ use lib.Dec.{eqb}
 use borrow.Author.Tests.{eq-eqb, ne-eqb}
 use Rattle.number.specs.Lists.{keep}
 use Rattle.walk.specs.Walk.{Entry, end, carries, plainListing, guardedListing}
-use Rattle.walk.specs.Lookup.{refused, gives, only, foremost, bears, plainLookup, guardedLookup}
+use Rattle.lookup.specs.Lookup.{refused, gives, only, foremost, bears, plainLookup, guardedLookup}
 use Rattle.walk.proofs.Picks.{guarded-carries}
-use Rattle.walk.proofs.Bearers.{bears-name}
+use Rattle.lookup.proofs.Bearers.{bears-name}
 use Rattle.strict.specs.Strict.{toldApart, Accepted}
 use Rattle.strict.specs.Slots.{hit, Spoilt}
-use Rattle.strict.proofs.Keeping.{keep-same, keep-comm}
+use Rattle.number.proofs.Tested.{keep-same, keep-comm}
 use Rattle.strict.proofs.Frames.{Sound, mem-guarded, still-sound}
 use Rattle.strict.proofs.Slots.{Clear, same-slot, hit-own, guarded-rising}
 use Rattle.strict.proofs.Bearing.{lone}

@@ -10,12 +10,13 @@ use lib.ListN.{length}
 use lib.Dec.{leb, ltb, eqb}
 use borrow.Author.Tests.{leb-true, le-leb, eq-eqb, ne-eqb}
 use Rattle.walk.specs.Walk.{Entry, end, onward, next, guarded, guardedListing}
-use Rattle.walk.specs.Lookup.{bears}
-use Rattle.walk.proofs.Places.{Place, below-ge, below-least}
+use Rattle.lookup.specs.Lookup.{bears}
+use Rattle.walk.specs.Walk.{Place}
+use Rattle.walk.proofs.Places.{below-ge, below-least}
 use Rattle.walk.proofs.Steps.{listing-apart, onward-stop}
 use Rattle.walk.proofs.Picks.{guarded-fits}
 use Rattle.strict.specs.Slots.{start, within}
-use Rattle.strict.proofs.Keeping.{both-true}
+use Rattle.number.proofs.Tested.{both-true}
 use Rattle.strict.proofs.Frames.{mem-guarded}
 use Rattle.strict.proofs.Slots.{Rising, guarded-rising, start-after, start-before}
 use Rattle.edit.specs.Edit.{Run, holds, runs, lowest, Slot, slotOf}

@@ -16,14 +16,15 @@ use Rattle.component.specs.Component.{Component, componentOf}
 use Rattle.component.proofs.Judging.{formed, judge-name}
 use Rattle.number.specs.Lists.{any}
 use Rattle.walk.specs.Walk.{Entry, carries, buried, places, placesBelow, plainListing}
-use Rattle.walk.specs.Lookup.{bears}
-use Rattle.walk.proofs.Places.{Place, mem-places}
+use Rattle.lookup.specs.Lookup.{bears}
+use Rattle.walk.specs.Walk.{Place}
+use Rattle.walk.proofs.Places.{mem-places}
 use Rattle.walk.proofs.Picks.{carries-fits, buried-false}
 use Rattle.walk.proofs.Members.{given}
-use Rattle.walk.proofs.Bearers.{bears-name}
+use Rattle.lookup.proofs.Bearers.{bears-name}
 use Rattle.strict.specs.Strict.{Accepted, refused, verdict}
 use Rattle.strict.specs.Slots.{start}
-use Rattle.strict.proofs.Keeping.{any-true}
+use Rattle.number.proofs.Tested.{any-true}
 use Rattle.edit.specs.Edit.{Bytes, Run, holds, Slot, slotOf, freeRuns, lowest, buries, spanBytes, filled, write, afterCheck, adding, renewing, clearing, refusal, done, carriedOut, add, replace, remove}
 use Rattle.edit.proofs.Written.{Fit, name-fit, length-span}
 use Rattle.edit.proofs.Runs.{holds-true}

@@ -13,7 +13,7 @@ use Rattle.component.specs.Component.{magic}
 use Rattle.component.specs.Names.{nameFits}
 use Rattle.number.specs.Lists.{any, keep}
 use Rattle.walk.specs.Walk.{Entry, end, buried, next, plainListing}
-use Rattle.walk.specs.Lookup.{bears}
+use Rattle.lookup.specs.Lookup.{bears}
 use Rattle.terms.specs.Refusals.{Test, test}
 use Rattle.strict.specs.Strict.{Verdict, refused, accepted, verdict}
 use Rattle.strict.specs.Slots.{start}

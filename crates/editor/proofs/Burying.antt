@@ -13,7 +13,8 @@ use Rattle.number.proofs.SameBytes.{eq-refl}
 use Rattle.component.specs.Component.{magic, startsWithMagic}
 use Rattle.number.specs.Lists.{any}
 use Rattle.walk.specs.Walk.{placesBelow, places, carries, nextMagic, buried}
-use Rattle.walk.proofs.Places.{Place, no-places, below-ge, below-lt, below-unique}
+use Rattle.walk.specs.Walk.{Place}
+use Rattle.walk.proofs.Places.{no-places, below-ge, below-lt, below-unique}
 use Rattle.walk.proofs.Picks.{carries-fits, buried-of}
 use Rattle.walk.proofs.Hunting.{next-end, next-here, next-not, by-places, next-carries, carries-end}
 use Rattle.editor.specs.Code.{lead}

@@ -12,9 +12,9 @@ use borrow.Author.Tests.{lt-leb, lt-ltb}
 use Rattle.component.specs.Names.{nameFits}
 use Rattle.number.specs.Lists.{any}
 use Rattle.walk.specs.Walk.{Entry, next, plainListing, guardedListing}
-use Rattle.walk.specs.Lookup.{bears}
+use Rattle.lookup.specs.Lookup.{bears}
 use Rattle.walk.proofs.Members.{given}
-use Rattle.walk.proofs.Bearers.{bears-name}
+use Rattle.lookup.proofs.Bearers.{bears-name}
 use Rattle.terms.specs.Terms.{refusedBy}
 use Rattle.terms.specs.declared.Refusal.{Refusal}
 use Rattle.strict.specs.Strict.{limit, Accepted, Verdict, refused, accepted, verdict}

@@ -11,9 +11,10 @@ use Rattle.number.proofs.Splice.{part-in}
 use Rattle.component.proofs.Judging.{judge-content, window}
 use Rattle.number.specs.Lists.{keep}
 use Rattle.walk.specs.Walk.{Entry, guardedListing}
-use Rattle.walk.specs.Lookup.{Answer, refused, gives, bears, only, lookupOf}
+use Rattle.lookup.specs.Lookup.{Answer, refused, gives, bears, only, lookupOf}
 use Rattle.walk.specs.declared.Taken.{Taken}
-use Rattle.walk.proofs.Members.{Given, given, lookup-member}
+use Rattle.walk.proofs.Members.{Given, given}
+use Rattle.lookup.proofs.Answers.{lookup-member}
 use Rattle.terms.specs.Terms.{bytesOf, refusedBy}
 use Rattle.terms.specs.declared.Region.{Region}
 use Rattle.terms.specs.declared.Refusal.{Refusal}

@@ -1,13 +1,13 @@
 -- Laws of lists by a Boolean test: told by the elements, and by the index.
 use Prim.Native.Nat.{ℕ, zero, suc, _<_}
 use native.Mathlib.Omega.{arith}
-use mathlib.Core.Path.{_≡_, refl, sym}
+use mathlib.Core.Path.{_≡_, refl, sym, _∙_}
 use mathlib.Core.Logic.{_⊎_, inl, inr}
-use mathlib.Core.Bool.{Bool, true, false, not, _&&_, _||_, true≢false, false≢true}
+use mathlib.Core.Bool.{Bool, true, false, cond, not, _&&_, _||_, true≢false, false≢true}
 use mathlib.Core.List.{List, [], _∷_, List·Memᴰ, List·Memᴰ·head, List·Memᴰ·tail, List·Memᴰ·not-nil, List·Memᴰ·cases-cons}
 use lib.ListN.{length, getD}
 use borrow.Author.Tests.{not-true}
-use Rattle.number.specs.Lists.{any, noTwo}
+use Rattle.number.specs.Lists.{any, keep, noTwo}
 
 pub or-false : (b c : Bool) → b || c ≡ false → (b ≡ false) × (c ≡ false)
 or-false true c e = absurd (true≢false e)
@@ -35,6 +35,75 @@ module _ {ℓ} {A : Type ℓ} where
       go : (b : Bool) → f y ≡ b → b || any f ys ≡ true → (any f ys ≡ true → (x : A) × List·Memᴰ x ys × (f x ≡ true)) → (x : A) × List·Memᴰ x (y ∷ ys) × (f x ≡ true)
       go true q e′ ih = (y, List·Memᴰ·head refl, q)
       go false q e′ ih = let (x, m, p) = ih e′ in (x, List·Memᴰ·tail m, p)
+
+  pub none-any : (f : A → Bool) (l : List A) → ((x : A) → List·Memᴰ x l → f x ≡ false) → any f l ≡ false
+  unfolding any
+  none-any f [] h = refl
+  none-any f (y ∷ ys) h = rw (h y (List·Memᴰ·head refl)) (none-any f ys (λ x m. h x (List·Memᴰ·tail m)))
+
+  pub mem-any : (f : A → Bool) (l : List A) (x : A) → List·Memᴰ x l → f x ≡ true → any f l ≡ true
+  mem-any f l x m e = go (any f l) refl
+    where
+      go : (b : Bool) → any f l ≡ b → b ≡ true
+      go true q = refl
+      go false q = absurd (true≢false (sym e ∙ any-false f l q x m))
+
+  -- What is kept.
+
+  pub mem-keep : (f : A → Bool) (l : List A) (x : A) → List·Memᴰ x (keep f l) → List·Memᴰ x l × (f x ≡ true)
+  unfolding keep
+  mem-keep f [] x m = absurd (List·Memᴰ·not-nil m)
+  mem-keep f (y ∷ ys) x m = go (f y) refl m (λ m′. mem-keep f ys x m′)
+    where
+      go : (b : Bool) → f y ≡ b → List·Memᴰ x (cond b (y ∷ keep f ys) (keep f ys)) → (List·Memᴰ x (keep f ys) → List·Memᴰ x ys × (f x ≡ true)) → List·Memᴰ x (y ∷ ys) × (f x ≡ true)
+      go true q m′ ih = by (List·Memᴰ·cases-cons m′)
+        where
+          by : (x ≡ y) ⊎ List·Memᴰ x (keep f ys) → List·Memᴰ x (y ∷ ys) × (f x ≡ true)
+          by (inl e) = (List·Memᴰ·head e, rw e q)
+          by (inr n) = (List·Memᴰ·tail (ih n .0), ih n .1)
+      go false q m′ ih = (List·Memᴰ·tail (ih m′ .0), ih m′ .1)
+
+  pub keep-mem : (f : A → Bool) (l : List A) (x : A) → List·Memᴰ x l → f x ≡ true → List·Memᴰ x (keep f l)
+  unfolding keep
+  keep-mem f [] x m e = absurd (List·Memᴰ·not-nil m)
+  keep-mem f (y ∷ ys) x m e = go (List·Memᴰ·cases-cons m) (λ m′. keep-mem f ys x m′ e)
+    where
+      later : (b : Bool) → List·Memᴰ x (keep f ys) → List·Memᴰ x (cond b (y ∷ keep f ys) (keep f ys))
+      later true n = List·Memᴰ·tail n
+      later false n = n
+
+      go : (x ≡ y) ⊎ List·Memᴰ x ys → (List·Memᴰ x ys → List·Memᴰ x (keep f ys)) → List·Memᴰ x (cond (f y) (y ∷ keep f ys) (keep f ys))
+      go (inl q) ih = rw (← q, e) (List·Memᴰ·head refl)
+      go (inr n) ih = later (f y) (ih n)
+
+  pub keep-empty : (f : A → Bool) (l : List A) → keep f l ≡ [] → (x : A) → List·Memᴰ x l → f x ≡ false
+  keep-empty f l e x m = go (f x) refl
+    where
+      go : (b : Bool) → f x ≡ b → b ≡ false
+      go true q = absurd (List·Memᴰ·not-nil (rw e at (keep-mem f l x m q)))
+      go false q = refl
+
+  pub keep-none : (f : A → Bool) (l : List A) → ((x : A) → List·Memᴰ x l → f x ≡ false) → keep f l ≡ []
+  unfolding keep
+  keep-none f [] h = refl
+  keep-none f (y ∷ ys) h = rw (h y (List·Memᴰ·head refl)) (keep-none f ys (λ x m. h x (List·Memᴰ·tail m)))
+
+  -- Tests that agree on the list keep the same.
+  pub keep-same : (f g : A → Bool) (l : List A) → ((x : A) → List·Memᴰ x l → f x ≡ g x) → keep f l ≡ keep g l
+  unfolding keep
+  keep-same f g [] h = refl
+  keep-same f g (y ∷ ys) h = rw (h y (List·Memᴰ·head refl), keep-same f g ys (λ x m. h x (List·Memᴰ·tail m)))
+
+  pub keep-comm : (f g : A → Bool) (l : List A) → keep f (keep g l) ≡ keep g (keep f l)
+  unfolding keep
+  keep-comm f g [] = refl
+  keep-comm f g (x ∷ xs) = go (f x) refl (g x) refl (keep-comm f g xs)
+    where
+      go : (b : Bool) → f x ≡ b → (c : Bool) → g x ≡ c → keep f (keep g xs) ≡ keep g (keep f xs) → keep f (cond c (x ∷ keep g xs) (keep g xs)) ≡ keep g (cond b (x ∷ keep f xs) (keep f xs))
+      go true p true q ih = rw (p, q, ih)
+      go true p false q ih = rw q ih
+      go false p true q ih = rw p ih
+      go false p false q ih = ih
 
   -- An element of the list stands at an index, and the other way round.
 

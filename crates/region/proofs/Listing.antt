@@ -13,7 +13,7 @@ use borrow.Author.Tests.{eq-eqb}
 use Rattle.walk.specs.Walk.{Entry, pickOf, step, next, listingFrom, listing, end}
 use Rattle.walk.proofs.Steps.{Stop, rest-none, rest-some, onward-stop}
 use Rattle.walk.proofs.Stepping.{pick-fits}
-use Rattle.walk.proofs.Lookups.{stands}
+use Rattle.walk.proofs.Standing.{stands}
 use Rattle.walk.proofs.Members.{next-within}
 use Rattle.terms.specs.Terms.{bytesOf}
 use Rattle.terms.specs.declared.Region.{Region}

@@ -10,12 +10,13 @@ use Rattle.number.specs.Bytes.{partOf}
 use Rattle.component.specs.Component.{Component, judged, headerOf, contentOf}
 use Rattle.component.proofs.Judging.{part-content}
 use Rattle.walk.specs.Walk.{Entry, pickOf, step, next, listing, takenOf, told}
-use Rattle.walk.specs.Lookup.{Answer, refused, gives, found}
+use Rattle.lookup.specs.Lookup.{Answer, refused, gives, found}
 use Rattle.walk.specs.declared.Taken.{Taken}
 use Rattle.walk.specs.declared.Step.the-variants.{Took as WalkTook, NoneLeft as WalkNoneLeft}
-use Rattle.walk.specs.declared.Found.the-variants.{At as WalkAt, Refused as WalkRefused}
-use Rattle.walk.proofs.Lookups.{stands, told-some}
-use Rattle.walk.proofs.Members.{given, next-within, found-some}
+use Rattle.lookup.specs.declared.Found.the-variants.{At as WalkAt, Refused as WalkRefused}
+use Rattle.walk.proofs.Standing.{stands, told-some}
+use Rattle.walk.proofs.Members.{given, next-within}
+use Rattle.lookup.proofs.Answers.{found-some}
 use Rattle.terms.specs.Terms.{bytesOf, refusedBy}
 use Rattle.terms.specs.declared.Region.{Region}
 use Rattle.terms.specs.declared.Refusal.{Refusal}

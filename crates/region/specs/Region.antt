@@ -10,7 +10,7 @@ use lib.Dec.{leb, eqb}
 use Rattle.number.specs.Tests.{every}
 use Rattle.component.specs.Component.{Component, judge, nameOf, contentOf, headerOf}
 use Rattle.walk.specs.Walk.{Entry, Pick, pickOf, step, next}
-use Rattle.walk.specs.Lookup.{Answer, refused, gives, lookupOf}
+use Rattle.lookup.specs.Lookup.{Answer, refused, gives, lookupOf}
 use Rattle.walk.specs.declared.Taken.{Taken}
 use Rattle.terms.specs.Terms.{bytesOf, refusedBy}
 use Rattle.terms.specs.declared.Region.{Region}

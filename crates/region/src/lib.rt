@@ -77,10 +77,10 @@ pub fn find_in(guarded: bool, image: &[u8], region: Region, name: &[u8]) -> Foun
     ensures { λ f. ⌜ f ≡ findIn guarded (now (image .entry)) region (now (name .entry)) ⌝ }
     ensures kept { λ _. ⌜ (now (image .exit) ≡ now (image .entry)) × (now (name .exit) ≡ now (name .entry)) ⌝ }
 {
-    let f = walk::find(guarded, terms::bytes(image, region), region.align, name);
+    let f = lookup::find(guarded, terms::bytes(image, region), region.align, name);
     match f {
-        walk::Found::At(t) => Found::At(shift(region.start, t)),
-        walk::Found::Refused(n) => Found::Refused(terms::refused(n)),
+        lookup::Found::At(t) => Found::At(shift(region.start, t)),
+        lookup::Found::Refused(n) => Found::Refused(terms::refused(n)),
     }
 }
 
@@ -98,10 +98,10 @@ pub fn lookup_in<'a, 'b>(guarded: bool, image: &'a [u8], region: Region, name: &
     ensures kept { λ _. ⌜ (now (image .exit) ≡ now (image .entry)) × (now (name .exit) ≡ now (name .entry)) ⌝ }
 {
     let bytes = terms::bytes(image, region);
-    let f = walk::find(guarded, bytes, region.align, name);
+    let f = lookup::find(guarded, bytes, region.align, name);
     match f {
-        walk::Found::At(t) => content_of(bytes, t),
-        walk::Found::Refused(_) => &image[0..0],
+        lookup::Found::At(t) => content_of(bytes, t),
+        lookup::Found::Refused(_) => &image[0..0],
     }
 }
 

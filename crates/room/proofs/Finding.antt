@@ -8,18 +8,18 @@ use mathlib.Core.Option.{Option, some, none}
 use lib.ListN.{length}
 use Rattle.number.specs.Lists.{any, keep}
 use Rattle.walk.specs.Walk.{Entry, next, plain, step, listingFrom, plainListing, told, takenOf}
-use Rattle.walk.specs.Lookup.{refused, gives, bears, foremost, plainLookup, found}
+use Rattle.lookup.specs.Lookup.{refused, gives, bears, foremost, plainLookup, found}
 use Rattle.walk.specs.declared.Taken.{Taken}
 use Rattle.walk.specs.declared.Step.the-variants.{Took, NoneLeft}
-use Rattle.walk.specs.declared.Found.the-variants.{At, Refused}
+use Rattle.lookup.specs.declared.Found.the-variants.{At, Refused}
 use Rattle.walk.proofs.Steps.{rest-none, rest-some}
 use Rattle.walk.proofs.Stepping.{pick-fits, step-past}
-use Rattle.walk.proofs.Lookups.{told-some, told-none, Stands, stands}
-use Rattle.walk.proofs.Members.{found-some, found-none, lookup-member}
-use Rattle.walk.proofs.Bearers.{no-bearer}
-use Rattle.walk.proofs.Places.{none-any}
+use Rattle.walk.proofs.Standing.{told-some, told-none, Stands, stands}
+use Rattle.lookup.proofs.Answers.{found-some, found-none, lookup-member}
+use Rattle.lookup.proofs.Bearers.{no-bearer}
+use Rattle.number.proofs.Tested.{none-any}
 use Rattle.strict.specs.Slots.{start}
-use Rattle.strict.proofs.Keeping.{mem-any}
+use Rattle.number.proofs.Tested.{mem-any}
 use Rattle.edit.specs.Edit.{holds, runs, lowest, slotOf}
 use Rattle.room.specs.Room.{run, roomFor, roomOf, spaceOf}
 use Rattle.room.specs.declared.Room.the-variants.{Within, Nowhere}

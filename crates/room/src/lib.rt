@@ -1,12 +1,12 @@
 // Where an edit finds room in a region's bytes r: the lowest free run that holds a span, the slot of a name's bearer, and whether a name is used (document 01, "Edits").
-use walk::Found;
+use lookup::Found;
 use walk::Step;
 ghost use mathlib.Core.Path.{_≡_};
 ghost use mathlib.Core.List.{[], _∷_};
 ghost use lib.ListN.{length};
 ghost use Rattle.number.specs.Lists.{any};
 ghost use Rattle.walk.specs.Walk.{plain, listingFrom, plainListing};
-ghost use Rattle.walk.specs.Lookup.{bears};
+ghost use Rattle.lookup.specs.Lookup.{bears};
 ghost use Rattle.strict.specs.Slots.{start as startOf};
 ghost use Rattle.edit.specs.Edit.{holds as holdsOf, freeRuns, lowest, slotOf};
 ghost use Rattle.room.specs.Room.{run, roomFor, roomOf};
@@ -94,7 +94,7 @@ pub fn slot_of(r: &[u8], align: usize, name: &[u8]) -> Room
     ensures { λ o. ⌜ o ≡ roomOf (slotOf (length (now (r .entry))) (now (name .entry)) (plainListing (now (r .entry)) align)) ⌝ }
     ensures kept { λ _. ⌜ (now (r .exit) ≡ now (r .entry)) × (now (name .exit) ≡ now (name .entry)) ⌝ }
 {
-    let f = walk::plain_find(r, align, name);
+    let f = lookup::plain_find(r, align, name);
     match f {
         Found::At(t) => {
             let h = t.header;
@@ -113,7 +113,7 @@ pub fn used(r: &[u8], align: usize, name: &[u8]) -> bool
     ensures { λ b. ⌜ b ≡ any (bears (now (name .entry))) (plainListing (now (r .entry)) align) ⌝ }
     ensures kept { λ _. ⌜ (now (r .exit) ≡ now (r .entry)) × (now (name .exit) ≡ now (name .entry)) ⌝ }
 {
-    let f = walk::plain_find(r, align, name);
+    let f = lookup::plain_find(r, align, name);
     match f {
         Found::At(_) => true,
         Found::Refused(_) => false,

@@ -12,7 +12,7 @@ use Rattle.walk.specs.Walk.{placesBelow, places, carries, buried, plain, unless
 use Rattle.terms.specs.Refusals.{lengthFits}
 use Rattle.terms.specs.Terms.{bytesOf}
 use Rattle.master.specs.Master.{headerAt, addressFits, bootblockFits, alignFits, offsetFits, tests, refusal, master}
-use Rattle.walk.specs.Lookup.{bears, foremost, only}
+use Rattle.lookup.specs.Lookup.{bears, foremost, only}
 use Rattle.region.specs.Region.{Walked, ended, went, stepFits, stepBy, fromPlace}
 use Rattle.cbfs.specs.Cbfs.{nameAt, plainStep, guardedStep}
 use Rattle.strict.specs.Strict.{takes, stray, strays, toldApart, decide, verdict}

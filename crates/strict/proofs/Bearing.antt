@@ -7,12 +7,12 @@ use mathlib.Core.Bool.{Bool, true, false, cond, not, true≢false}
 use borrow.Author.Tests.{not-true}
 use Rattle.number.specs.Lists.{any, keep}
 use Rattle.walk.specs.Walk.{Entry}
-use Rattle.walk.specs.Lookup.{refused, gives, foremost, only, bears}
-use Rattle.walk.proofs.Places.{any-false}
-use Rattle.walk.proofs.Members.{mem-keep}
-use Rattle.walk.proofs.Bearers.{bears-name, name-bears}
+use Rattle.lookup.specs.Lookup.{refused, gives, foremost, only, bears}
+use Rattle.number.proofs.Tested.{any-false}
+use Rattle.number.proofs.Tested.{mem-keep}
+use Rattle.lookup.proofs.Bearers.{bears-name, name-bears}
 use Rattle.strict.specs.Strict.{toldApart}
-use Rattle.strict.proofs.Keeping.{both-true, keep-none}
+use Rattle.number.proofs.Tested.{both-true, keep-none}
 
 -- A list of which some are spoiled, and one bearer is not.
 module _ (bearing spoiled : Entry → Bool) where

@@ -10,7 +10,7 @@ use mathlib.Core.Option.{some, none, Option·some-injective, Option·none-ne-som
 use lib.ListN.{length, drop, length-append}
 use Rattle.component.specs.Component.{Component, span, judge}
 use Rattle.walk.specs.Walk.{Entry, carries, nextMagic, onward, plainListing}
-use Rattle.walk.proofs.Places.{Place}
+use Rattle.walk.specs.Walk.{Place}
 use Rattle.walk.proofs.Hunting.{next-none, next-end, next-carries, next-above}
 use Rattle.walk.proofs.Steps.{Stop, onward-stop}
 use Rattle.strict.specs.Strict.{strays, straysFrom, lowest, firstStray, refused, decide, verdict}

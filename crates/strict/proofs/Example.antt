@@ -16,7 +16,7 @@ use Rattle.component.specs.Names.{nameTests, nameFits, beforeZero, fieldTests, 
 use Rattle.component.specs.Component.{magic, startsWithMagic, componentOf, headerTests, wellFormed, fields, judge}
 use Rattle.number.specs.Lists.{any, keep}
 use Rattle.walk.specs.Walk.{Entry, placesBelow, places, carries, buried, plain, unless, guarded, orElse, first, step, onward, follow, steps, listingFrom, guardedListing}
-use Rattle.walk.specs.Lookup.{bears, only, gives, guardedLookup}
+use Rattle.lookup.specs.Lookup.{bears, only, gives, guardedLookup}
 use Rattle.strict.specs.Strict.{limit, takes, stray, strays, toldApart, Accepted, refused, accepted, decide, verdict}
 use Rattle.strict.specs.Slots.{start, within, hit, Spoilt, Kept}
 use Rattle.strict.proofs.Verdicts.{accepted-exactly}

@@ -12,7 +12,7 @@ use Rattle.component.specs.Component.{Component, span}
 use Rattle.component.proofs.Judging.{judge-local, window}
 use Rattle.number.specs.Lists.{keep}
 use Rattle.walk.specs.Walk.{Entry, allPlaces, carries, buried, plain, guarded, guardedListing}
-use Rattle.walk.proofs.Places.{Place}
+use Rattle.walk.specs.Walk.{Place}
 use Rattle.walk.proofs.Picks.{carries-local, buried-false, buried-of, guarded-plain, guarded-of, guarded-none, guarded-fits, guarded-context-free}
 use Rattle.strict.proofs.Picked.{mem-picked, picked-mem, listed-place, place-listed, picked-keep}
 

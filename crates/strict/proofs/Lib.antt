@@ -1,4 +1,3 @@
-pub mod Keeping
 pub mod Picked
 pub mod Frames
 pub mod Bearing

@@ -14,7 +14,7 @@ use Rattle.number.proofs.SameBytes.{eq-true}
 use Rattle.component.specs.Component.{judge}
 use Rattle.number.specs.Lists.{any}
 use Rattle.walk.specs.Walk.{Entry, plainListing}
-use Rattle.walk.specs.Lookup.{bears}
+use Rattle.lookup.specs.Lookup.{bears}
 use Rattle.walk.proofs.Members.{given}
 use Rattle.strict.specs.Strict.{limit, toldApart, placesOf}
 use Rattle.strict.specs.Directory.{nameAt, stirred, digestOn, digestOf, NameDigests, named, apartAt}

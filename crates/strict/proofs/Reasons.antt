@@ -10,12 +10,13 @@ use lib.ListN.{length}
 use borrow.Author.Tests.{not-true}
 use Rattle.number.specs.Lists.{any, keep}
 use Rattle.walk.specs.Walk.{Entry, placesBelow, places, allPlaces, carries, plainListing}
-use Rattle.walk.specs.Lookup.{bears}
-use Rattle.walk.proofs.Places.{Place, no-places, mem-places}
-use Rattle.walk.proofs.Bearers.{bears-name, name-bears}
+use Rattle.lookup.specs.Lookup.{bears}
+use Rattle.walk.specs.Walk.{Place}
+use Rattle.walk.proofs.Places.{no-places, mem-places}
+use Rattle.lookup.proofs.Bearers.{bears-name, name-bears}
 use Rattle.walk.proofs.Picks.{carries-fits}
 use Rattle.strict.specs.Strict.{takes, stray, strays, toldApart}
-use Rattle.strict.proofs.Keeping.{both-true, mem-any, keep-empty}
+use Rattle.number.proofs.Tested.{both-true, mem-any, keep-empty}
 use Rattle.strict.proofs.Picked.{listed-place, place-listed}
 use Rattle.strict.proofs.Strays.{stray-true}
 

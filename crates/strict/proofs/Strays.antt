@@ -14,13 +14,14 @@ use borrow.Author.Tests.{eq-eqb, ne-eqb}
 use Rattle.component.specs.Component.{Component, span, judge}
 use Rattle.number.specs.Lists.{any, keep}
 use Rattle.walk.specs.Walk.{Entry, placesBelow, places, carries, nextMagic, plain, step, onward, listingFrom}
-use Rattle.walk.proofs.Places.{Place, no-places, below-next, below-end, below-unique, mem-places}
+use Rattle.walk.specs.Walk.{Place}
+use Rattle.walk.proofs.Places.{no-places, below-next, below-end, below-unique, mem-places}
 use Rattle.walk.proofs.Hunting.{next-end, next-here, next-not, next-above, next-carries, by-places, over-quiet, quiet-all}
 use Rattle.walk.proofs.Steps.{Stop, Listed, mem-steps, onward-stop, onward-far, rest-none, rest-some, step-here, step-next}
 use Rattle.walk.proofs.Stepping.{hunted, pick-fits, step-no-places, step-past}
 use Rattle.walk.proofs.Picks.{plain-fits}
 use Rattle.strict.specs.Strict.{takes, stray, strays, straysFrom, lowest, firstStray}
-use Rattle.strict.proofs.Keeping.{keep-same}
+use Rattle.number.proofs.Tested.{keep-same}
 use Rattle.strict.proofs.Accepting.{takes-mem}
 
 pub strays-from : (r : List ℕ) (a : ℕ) → strays r a ≡ straysFrom r a 0

@@ -7,7 +7,7 @@ use lib.ListN.{length, getD}
 use lib.Dec.{ltb, leb}
 use Rattle.number.specs.Lists.{any, keep}
 use Rattle.walk.specs.Walk.{Entry, end, guardedListing}
-use Rattle.walk.specs.Lookup.{refused, gives, bears, guardedLookup}
+use Rattle.lookup.specs.Lookup.{refused, gives, bears, guardedLookup}
 
 -- The first component's start, or else the region's end e.
 unfoldable pub start : ℕ → List Entry → ℕ

@@ -3,7 +3,6 @@ pub mod Hunting
 pub mod Steps
 pub mod Picks
 pub mod Stepping
-pub mod Lookups
+pub mod Standing
 pub mod Members
 pub mod Rounding
-pub mod Bearers

@@ -1,17 +1,12 @@
--- Places, counted and rounded to; tests over lists.
+-- Places, counted and rounded to.
 use Prim.Native.Nat.{ℕ, zero, suc, _+_, _*_, _-_, _≤_, _<_}
 use native.Mathlib.Nat.{div-zero, div-add-mod', mod-lt, lt-of-mul-lt-mul-right, mul-le-mul-right, eq-of-mul-eq-mul-right}
 use native.Mathlib.Omega.{arith}
 use native.Mathlib.Decide.{decLe, decLt}
-use mathlib.Core.Path.{_≡_, refl}
-use mathlib.Core.List.{List, [], _∷_, List·Memᴰ, List·Memᴰ·head, List·Memᴰ·tail, List·Memᴰ·not-nil, List·Memᴰ·cases-cons, Memᴰ·cast}
+use mathlib.Core.Path.{_≡_}
+use mathlib.Core.List.{List·Memᴰ, List·Memᴰ·head, List·Memᴰ·tail, List·Memᴰ·not-nil, List·Memᴰ·cases-cons, Memᴰ·cast}
 use mathlib.Core.Logic.{_⊎_, inl, inr}
-use mathlib.Core.Bool.{Bool, true, false, _||_, true≢false}
-use Rattle.number.specs.Lists.{any}
 use Rattle.walk.specs.Walk.{placesBelow, places}
-
-abbrev pub Place : ℕ → ℕ → Type 0
-Place a p = (i : ℕ) × (p ≡ i * a)
 
 -- An alignment of 0 has no places.
 pub no-places : (n : ℕ) → placesBelow 0 n ≡ 0
@@ -89,22 +84,3 @@ unfolding places
 places-mem a zero p i h = absurd (omega arith)
 places-mem a (suc k) p zero h = List·Memᴰ·head {x = p} (omega arith)
 places-mem a (suc k) p (suc i) h = List·Memᴰ·tail (Memᴰ·cast {b = p + a + i * a} (omega arith) (places-mem a k (p + a) i (omega arith)))
-
-pub or-false : (b c : Bool) → b || c ≡ false → (b ≡ false) × (c ≡ false)
-or-false true c e = absurd (true≢false e)
-or-false false c e = (refl, e)
-
-module _ {ℓ} {A : Type ℓ} where
-  pub any-false : (f : A → Bool) (l : List A) → any f l ≡ false → (x : A) → List·Memᴰ x l → f x ≡ false
-  unfolding any
-  any-false f [] e x m = absurd (List·Memᴰ·not-nil m)
-  any-false f (y ∷ ys) e x m = go (List·Memᴰ·cases-cons m) (any-false f ys (or-false (f y) (any f ys) e .1) x)
-    where
-      go : (x ≡ y) ⊎ List·Memᴰ x ys → (List·Memᴰ x ys → f x ≡ false) → f x ≡ false
-      go (inl q) ih = rw q (or-false (f y) (any f ys) e .0)
-      go (inr m′) ih = ih m′
-
-  pub none-any : (f : A → Bool) (l : List A) → ((x : A) → List·Memᴰ x l → f x ≡ false) → any f l ≡ false
-  unfolding any
-  none-any f [] h = refl
-  none-any f (y ∷ ys) h = rw (h y (List·Memᴰ·head refl)) (none-any f ys (λ x m. h x (List·Memᴰ·tail m)))

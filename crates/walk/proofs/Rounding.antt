@@ -6,7 +6,7 @@ use mathlib.Core.Path.{_≡_, sym}
 use mathlib.Core.List.{List}
 use lib.ListN.{length}
 use lib.Pow.{pow-pos}
-use Rattle.walk.specs.Walk.{placesBelow, onward}
+use Rattle.walk.specs.Walk.{placesBelow, onward, Rounded}
 use Rattle.walk.proofs.Places.{no-places, below-ge, below-least, below-unique}
 
 -- The first place at or after n, by the rest that n leaves.
@@ -32,12 +32,6 @@ onward-none r a n e = rw (e, no-places n) (omega arith)
 pub onward-past : (r : List ℕ) (a n : ℕ) → 0 < a → length r ≤ n → length r ≡ onward r a n
 unfolding onward
 onward-past r a n pos h = let g : n ≤ placesBelow a n * a = below-ge a pos n in sym (min-eq-right (omega arith))
-
--- q is the first multiple of a at or after n.
-pub record Rounded (a n q : ℕ) : Type 0 where
-  pub multiple : q % a ≡ 0
-  pub after : n ≤ q
-  pub first : (m : ℕ) → m % a ≡ 0 → n ≤ m → q ≤ m
 
 pub rounded : (k n : ℕ) → Rounded (2 ^ k) n (placesBelow (2 ^ k) n * 2 ^ k)
 rounded k n = record {

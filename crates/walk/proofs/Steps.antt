@@ -10,7 +10,8 @@ use mathlib.Core.Option.{Option, some, none, Option·some-injective, Option·non
 use lib.ListN.{length}
 use Rattle.component.specs.Component.{Component, span}
 use Rattle.walk.specs.Walk.{Entry, Pick, end, placesBelow, places, allPlaces, orElse, first, onward, step, follow, steps, listing, listingFrom, prepend, picked, allFrom}
-use Rattle.walk.proofs.Places.{Place, below-ge, below-lt, below-next, below-end, below-pos, gap}
+use Rattle.walk.specs.Walk.{Place}
+use Rattle.walk.proofs.Places.{below-ge, below-lt, below-next, below-end, below-pos, gap}
 
 -- A listing ends where no component is left.
 pub rest-none : (pick : Pick) (r : List ℕ) (a n : ℕ) → step pick r a n ≡ none → listingFrom pick r a n ≡ []

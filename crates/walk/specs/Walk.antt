@@ -1,6 +1,7 @@
 -- The two walks over a region's bytes r at the alignment a (document 01, "Components and the two walks").
 -- Places are told from the region's start. An alignment of 0 has no places.
-use Prim.Native.Nat.{ℕ, zero, suc, _+_, _*_, _-_, _/_, min}
+use Prim.Native.Nat.{ℕ, zero, suc, _+_, _*_, _-_, _/_, _%_, _≤_, min}
+use mathlib.Core.Path.{_≡_}
 use mathlib.Core.List.{List, [], _∷_}
 use mathlib.Core.Bool.{Bool, true, false, cond}
 use mathlib.Core.Option.{Option, some, none}
@@ -140,3 +141,13 @@ told r a (some t) = Took (takenOf r a t)
 abbrev pub pickOf : Bool → List ℕ → ℕ → Pick
 pickOf true r a = guarded r a
 pickOf false r a = plain r
+
+-- For what is promised: p is a multiple of a.
+abbrev pub Place : ℕ → ℕ → Type 0
+Place a p = (i : ℕ) × (p ≡ i * a)
+
+-- q is the first multiple of a at or after n.
+pub record Rounded (a n q : ℕ) : Type 0 where
+  pub multiple : q % a ≡ 0
+  pub after : n ≤ q
+  pub first : (m : ℕ) → m % a ≡ 0 → n ≤ m → q ≤ m

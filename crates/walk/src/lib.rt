@@ -1,14 +1,12 @@
-// The walks over a region's bytes: the hunt for the magic, a step, and the lookup by name (document 01, "Components and the two walks").
+// The walks over a region's bytes: the hunt for the magic and a step (document 01, "Components and the two walks").
 // A region is a run of bytes; places are multiples of the alignment, counted from its start. An alignment of 0 has no places.
 use component::Header;
 use component::Judged;
 ghost use mathlib.Core.Path.{_≡_};
 ghost use mathlib.Core.Bool.{true, false, cond};
 ghost use Prim.Native.Nat.{_+_, _-_, _≤_, _<_, min};
-ghost use lib.ListN.{length, drop};
-ghost use Rattle.number.specs.Bytes.{partOf, eqBytes};
+ghost use lib.ListN.{length};
 ghost use Rattle.walk.specs.Walk.{nextMagic, onward as onwardOf, step as stepOf, told, pickOf, plain, guarded as guardedOf};
-ghost use Rattle.walk.specs.Lookup.{bearersFrom, firstOf, plainLookup, guardedLookup, lookupOf, found};
 
 // A component that a walk has taken, and the number to go on from.
 pub struct Taken {
@@ -20,12 +18,6 @@ pub struct Taken {
 pub enum Step {
     Took(Taken),
     NoneLeft,
-}
-
-// A component, or the number of a refusal.
-pub enum Found {
-    At(Taken),
-    Refused(u32),
 }
 
 fn least(a: usize, b: usize) -> usize
@@ -167,75 +159,4 @@ pub fn guarded_step(r: &[u8], align: usize, from: usize) -> Step
     ensures kept { λ _. ⌜ now (r .exit) ≡ now (r .entry) ⌝ }
 {
     walk_step(true, r, align, from)
-}
-
-// The component t of the region bears the name.
-fn bears(r: &[u8], t: Taken, name: &[u8]) -> bool
-    ensures { λ b. ⌜ b ≡ eqBytes (partOf (drop (t .place) (now (r .entry))) 24 (t .header .named)) (now (name .entry)) ⌝ }
-{
-    let h = t.header;
-    number::equal(number::part(number::rest(r, t.place), 24, h.named), name)
-}
-
-// The first component from `from` on that bears the name.
-fn first_bearer(guarded: bool, r: &[u8], align: usize, from: usize, name: &[u8]) -> Step
-    ensures { λ s. ⌜ s ≡ told (now (r .entry)) align (firstOf (bearersFrom (pickOf guarded (now (r .entry)) align) (now (r .entry)) align (now (name .entry)) from)) ⌝ }
-{
-    let mut n = from;
-    while n < r.len() {
-        let s = walk_step(guarded, r, align, n);
-        match s {
-            Step::NoneLeft => {
-                return Step::NoneLeft;
-            }
-            Step::Took(t) => {
-                if bears(r, t, name) {
-                    return Step::Took(t);
-                }
-                n = t.next;
-            }
-        }
-    }
-    Step::NoneLeft
-}
-
-// The first bearer of the name in the plain listing, or refusal 10.
-pub fn plain_find(r: &[u8], align: usize, name: &[u8]) -> Found
-    ensures { λ f. ⌜ f ≡ found (now (r .entry)) align (plainLookup (now (r .entry)) align (now (name .entry))) ⌝ }
-    ensures kept { λ _. ⌜ (now (r .exit) ≡ now (r .entry)) × (now (name .exit) ≡ now (name .entry)) ⌝ }
-{
-    let s = first_bearer(false, r, align, 0, name);
-    match s {
-        Step::Took(t) => Found::At(t),
-        Step::NoneLeft => Found::Refused(10),
-    }
-}
-
-// The only bearer of the name in the guarded listing, or refusal 10 or 11.
-pub fn guarded_find(r: &[u8], align: usize, name: &[u8]) -> Found
-    ensures { λ f. ⌜ f ≡ found (now (r .entry)) align (guardedLookup (now (r .entry)) align (now (name .entry))) ⌝ }
-    ensures kept { λ _. ⌜ (now (r .exit) ≡ now (r .entry)) × (now (name .exit) ≡ now (name .entry)) ⌝ }
-{
-    let s = first_bearer(true, r, align, 0, name);
-    match s {
-        Step::NoneLeft => Found::Refused(10),
-        Step::Took(t) => {
-            let u = first_bearer(true, r, align, t.next, name);
-            match u {
-                Step::NoneLeft => Found::At(t),
-                Step::Took(_) => Found::Refused(11),
-            }
-        }
-    }
-}
-
-// The lookup of either walk.
-pub fn find(guarded: bool, r: &[u8], align: usize, name: &[u8]) -> Found
-    ensures { λ f. ⌜ f ≡ found (now (r .entry)) align (lookupOf guarded (now (r .entry)) align (now (name .entry))) ⌝ }
-    ensures kept { λ _. ⌜ (now (r .exit) ≡ now (r .entry)) × (now (name .exit) ≡ now (name .entry)) ⌝ }
-{
-    if guarded {
-        return guarded_find(r, align, name);
-    }
-    plain_find(r, align, name)
 }

@@ -10,7 +10,7 @@ use borrow.Author.Tests.{not-true, not-false}
 use Rattle.component.specs.Names.{nameFits}
 use Rattle.number.specs.Lists.{any}
 use Rattle.walk.specs.Walk.{plainListing}
-use Rattle.walk.specs.Lookup.{bears}
+use Rattle.lookup.specs.Lookup.{bears}
 use Rattle.edit.specs.Edit.{spanBytes, buries, freeRuns, lowest, adding}
 use Rattle.room.specs.Room.{roomFor}
 use Rattle.editor.specs.Code.{choice}

@@ -2,10 +2,10 @@ use Prim.Native.Nat.{ℕ}
 use mathlib.Core.Path.{_≡_, refl, sym, _∙_}
 use mathlib.Core.List.{List}
 use native.Mathlib.Omega.{arith}
-use Rattle.walk.specs.Lookup.{Answer, found, lookupOf}
+use Rattle.lookup.specs.Lookup.{Answer, found, lookupOf}
 use Rattle.terms.specs.Terms.{bytesOf}
 use Rattle.region.proofs.Telling.{found-sums, found-at, found-refused}
-use Rattle.walk.proofs.Members.{lookup-member}
+use Rattle.lookup.proofs.Answers.{lookup-member}
 use borrow.Author.Needs.{needs}
 use Rattle.region.proofs.find_in.Statement.{statement}
 use Rattle.region.proofs.find_in.Tie as tie

@@ -1,10 +1,10 @@
 use Prim.Native.Nat.{ℕ}
 use mathlib.Core.Path.{_≡_, refl, sym, _∙_}
 use mathlib.Core.List.{List}
-use Rattle.walk.specs.Lookup.{Answer, found, lookupOf}
+use Rattle.lookup.specs.Lookup.{Answer, found, lookupOf}
 use Rattle.terms.specs.Terms.{bytesOf}
 use Rattle.region.proofs.Telling.{found-content, content-refused}
-use Rattle.walk.proofs.Members.{lookup-member}
+use Rattle.lookup.proofs.Answers.{lookup-member}
 use borrow.Author.Needs.{needs}
 use Rattle.region.proofs.lookup_in.Statement.{statement}
 use Rattle.region.proofs.lookup_in.Tie as tie

@@ -5,7 +5,7 @@ use native.Mathlib.Omega.{arith}
 use lib.ListN.{length}
 use Rattle.walk.specs.Walk.{plain, step, listingFrom, told}
 use Rattle.walk.specs.declared.Step.the-variants.{Took}
-use Rattle.walk.proofs.Lookups.{took-inside}
+use Rattle.walk.proofs.Standing.{took-inside}
 use Rattle.edit.specs.Edit.{runs, freeRuns, lowest}
 use Rattle.room.specs.Room.{roomFor}
 use Rattle.room.proofs.Finding.{runs-told-last, runs-past, runs-here, runs-on}
@@ -71,7 +71,7 @@ loop-less c =
     let s = c .before .before .before in
     let l = loop (s .before .before) in
     let a = start l .args in
-    omega (arith, s .before .before .before .loop-test .taken, took-inside false (a .r .now) (a .align) (l .loop .from) (a .r .now) _ (said s) .1)
+    omega (arith, s .before .before .before .loop-test .taken, took-inside false (a .r .now) (a .align) (l .loop .from) _ (said s) .1)
 
 loop-again : tie.Need-loop-again Inv-loop μ-loop
 loop-again c =

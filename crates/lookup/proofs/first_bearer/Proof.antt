@@ -2,14 +2,15 @@ use Prim.Native.Nat.{_-_}
 use mathlib.Core.Path.{_≡_, refl, sym, ap, _∙_}
 use native.Mathlib.Omega.{arith}
 use lib.ListN.{length}
 use Rattle.walk.specs.Walk.{pickOf, told, step as stepOf}
-use Rattle.walk.specs.Lookup.{bearersFrom, firstOf}
+use Rattle.lookup.specs.Lookup.{bearersFrom, firstOf}
 use Rattle.walk.specs.declared.Step.the-variants.{Took}
 use Rattle.walk.proofs.Stepping.{step-past}
-use Rattle.walk.proofs.Lookups.{told-none, took-inside, bearers-end, bearer-here, bearer-on}
+use Rattle.walk.proofs.Standing.{told-none, took-inside}
+use Rattle.lookup.proofs.Lookups.{bearers-end, bearer-here, bearer-on}
 use borrow.Author.Needs.{needs}
-use Rattle.walk.proofs.first_bearer.Statement.{statement}
-use Rattle.walk.proofs.first_bearer.Tie as tie
+use Rattle.lookup.proofs.first_bearer.Statement.{statement}
+use Rattle.lookup.proofs.first_bearer.Tie as tie
 
 abbrev Inv-loop : tie.InvT-loop
 Inv-loop guarded r align from name n₀ n = bearersFrom (pickOf guarded r align) r align name from ≡ bearersFrom (pickOf guarded r align) r align name n
@@ -69,7 +70,7 @@ loop-less c =
     let s = c .before .before .before in
     let l = loop (s .before .before) in
     let a = start l .args in
-    omega (arith, s .before .before .before .loop-test .taken, took-inside (a .guarded) (a .r .now) (a .align) (l .loop .n) (a .name .now) _ (said s) .1)
+    omega (arith, s .before .before .before .loop-test .taken, took-inside (a .guarded) (a .r .now) (a .align) (l .loop .n) _ (said s) .1)
 
 loop-again : tie.Need-loop-again Inv-loop μ-loop
 loop-again c =

@@ -1,10 +1,10 @@
 use mathlib.Core.Path.{refl, sym, _∙_}
 use Rattle.walk.specs.Walk.{plain}
-use Rattle.walk.specs.Lookup.{bearersFrom}
-use Rattle.walk.proofs.Lookups.{first-found, first-missing}
+use Rattle.lookup.specs.Lookup.{bearersFrom}
+use Rattle.lookup.proofs.Lookups.{first-found, first-missing}
 use borrow.Author.Needs.{needs}
-use Rattle.walk.proofs.plain_find.Statement.{statement}
-use Rattle.walk.proofs.plain_find.Tie as tie
+use Rattle.lookup.proofs.plain_find.Statement.{statement}
+use Rattle.lookup.proofs.plain_find.Tie as tie
 
 abbrev start : tie.After-first-bearer → tie.Start
 start c = c .before .before .before

@@ -1,7 +1,7 @@
 use mathlib.Core.Path.{_∙_}
 use borrow.Author.Needs.{needs}
-use Rattle.walk.proofs.bears.Statement.{statement}
-use Rattle.walk.proofs.bears.Tie as tie
+use Rattle.lookup.proofs.bears.Statement.{statement}
+use Rattle.lookup.proofs.bears.Tie as tie
 
 rest-requires : tie.Need-rest-requires
 rest-requires c κs = search needs

@@ -2,13 +2,13 @@
 use Prim.Native.Nat.{ℕ}
 use native.Mathlib.Omega.{arith}
 use mathlib.Core.Path.{_≡_, refl, sym, ap, _∙_}
-use mathlib.Core.List.{List, [], _∷_, _++_, List·Memᴰ, List·Memᴰ·head, List·Memᴰ·tail, List·Memᴰ·not-nil, List·Memᴰ·cases-cons}
+use mathlib.Core.List.{List, [], _∷_, List·Memᴰ, List·Memᴰ·head, List·Memᴰ·tail, List·Memᴰ·not-nil, List·Memᴰ·cases-cons}
 use mathlib.Core.Logic.{_⊎_, inl, inr, _↔_}
 use mathlib.Core.Bool.{Bool, true, false, cond, true≢false}
 use Rattle.number.proofs.SameBytes.{eq-true, eq-refl}
 use Rattle.number.specs.Lists.{keep}
 use Rattle.walk.specs.Walk.{Entry}
-use Rattle.walk.specs.Lookup.{refused, gives, bears, foremost}
+use Rattle.lookup.specs.Lookup.{refused, gives, bears, foremost, FirstBearer}
 
 -- To bear a name is to have it, byte for byte.
 
@@ -19,14 +19,6 @@ bears-name name e b = eq-true (e .component .name) name b
 pub name-bears : (name : List ℕ) (e : Entry) → e .component .name ≡ name → bears name e ≡ true
 unfolding bears
 name-bears name e q = rw q (eq-refl name)
-
--- e bears the name, and nobody does before it.
-pub record FirstBearer (name : List ℕ) (l : List Entry) (e : Entry) : Type 0 where
-  pub before : List Entry
-  pub after : List Entry
-  pub split : l ≡ before ++ (e ∷ after)
-  pub bearing : bears name e ≡ true
-  pub nobody : (x : Entry) → List·Memᴰ x before → bears name x ≡ false
 
 pub first-bearer : (name : List ℕ) (l : List Entry) (e : Entry) → foremost (keep (bears name) l) ≡ gives e → FirstBearer name l e
 unfolding keep foremost

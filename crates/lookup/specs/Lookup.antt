@@ -1,13 +1,14 @@
 -- Lookups by name (document 01, "Components and the two walks"). Any bytes may be asked for; an unfit name is borne by nobody.
 use Prim.Native.Nat.{ℕ}
-use mathlib.Core.List.{List, [], _∷_}
+use mathlib.Core.Path.{_≡_}
+use mathlib.Core.List.{List, [], _∷_, _++_, List·Memᴰ}
 use mathlib.Core.Bool.{Bool, true, false}
 use mathlib.Core.Option.{Option, some, none}
 use Rattle.number.specs.Bytes.{eqBytes}
 use Rattle.number.specs.Lists.{keep}
 use Rattle.walk.specs.Walk.{Entry, Pick, listingFrom, plainListing, guardedListing, takenOf}
-use Rattle.walk.specs.declared.Found.{Found}
-use Rattle.walk.specs.declared.Found.the-variants.{At, Refused}
+use Rattle.lookup.specs.declared.Found.{Found}
+use Rattle.lookup.specs.declared.Found.the-variants.{At, Refused}
 
 -- The component bears the name, byte for byte.
 unfoldable pub bears : List ℕ → Entry → Bool
@@ -55,3 +56,11 @@ firstOf (t ∷ ts) = some t
 abbrev pub found : List ℕ → ℕ → Answer → Found
 found r a (refused n) = Refused n
 found r a (gives t) = At (takenOf r a t)
+
+-- For what is promised: e bears the name, and nobody does before it.
+pub record FirstBearer (name : List ℕ) (l : List Entry) (e : Entry) : Type 0 where
+  pub before : List Entry
+  pub after : List Entry
+  pub split : l ≡ before ++ (e ∷ after)
+  pub bearing : bears name e ≡ true
+  pub nobody : (x : Entry) → List·Memᴰ x before → bears name x ≡ false

@@ -1,7 +1,7 @@
 use mathlib.Core.Path.{refl, _∙_}
 use borrow.Author.Needs.{needs}
-use Rattle.walk.proofs.find.Statement.{statement}
-use Rattle.walk.proofs.find.Tie as tie
+use Rattle.lookup.proofs.find.Statement.{statement}
+use Rattle.lookup.proofs.find.Tie as tie
 
 guarded-find-requires : tie.Need-guarded-find-requires
 guarded-find-requires c κs = search needs

@@ -1,10 +1,10 @@
 use mathlib.Core.Path.{refl, sym, _∙_}
 use mathlib.Core.Bool.{true}
-use Rattle.walk.specs.Lookup.{bearersFrom}
-use Rattle.walk.proofs.Lookups.{only-missing, only-found, only-twice}
+use Rattle.lookup.specs.Lookup.{bearersFrom}
+use Rattle.lookup.proofs.Lookups.{only-missing, only-found, only-twice}
 use borrow.Author.Needs.{needs}
-use Rattle.walk.proofs.guarded_find.Statement.{statement}
-use Rattle.walk.proofs.guarded_find.Tie as tie
+use Rattle.lookup.proofs.guarded_find.Statement.{statement}
+use Rattle.lookup.proofs.guarded_find.Tie as tie
 
 abbrev start : tie.After-first-bearer → tie.Start
 start c = c .before .before .before

@@ -1,0 +1,121 @@
+-- Laws of bearers, for a loop that takes one step after the other. g tells the guarded walk.
+use Prim.Native.Nat.{ℕ, zero, suc, _+_, _<_}
+use native.Mathlib.Omega.{arith}
+use mathlib.Core.Path.{_≡_, refl, sym, ap, subst, _∙_}
+use mathlib.Core.List.{List, [], _∷_}
+use mathlib.Core.Bool.{Bool, true, false, cond}
+use mathlib.Core.Option.{Option, some, none, Option·none-ne-some, Option·some-injective}
+use lib.ListN.{length, drop}
+use Rattle.number.specs.Bytes.{partOf, eqBytes}
+use Rattle.number.specs.Lists.{keep}
+use Rattle.walk.specs.Walk.{Entry, pickOf, step, next, takenOf, told}
+use Rattle.lookup.specs.Lookup.{bears, bearersFrom, firstOf, foremost, only, found}
+use Rattle.walk.specs.declared.Taken.{Taken}
+use Rattle.walk.specs.declared.Step.the-variants.{Took, NoneLeft}
+use Rattle.lookup.specs.declared.Found.the-variants.{At, Refused}
+use Rattle.walk.proofs.Standing.{told-some, stands}
+use Rattle.walk.proofs.Steps.{rest-none, rest-some}
+use Rattle.walk.proofs.Stepping.{pick-fits, step-past}
+
+-- The bearers from n on, by the step from n.
+module _ (g : Bool) (r : List ℕ) (a n : ℕ) (name : List ℕ) where
+  pub bearers-end : step (pickOf g r a) r a n ≡ none → bearersFrom (pickOf g r a) r a name n ≡ []
+  unfolding bearersFrom keep
+  bearers-end s = rw (rest-none (pickOf g r a) r a n s)
+
+  pub bearers-here : (e : Entry) → step (pickOf g r a) r a n ≡ some e → bearersFrom (pickOf g r a) r a name n ≡ cond (bears name e) (e ∷ bearersFrom (pickOf g r a) r a name (next r a e)) (bearersFrom (pickOf g r a) r a name (next r a e))
+  unfolding bearersFrom keep
+  bearers-here e s = let pos = stands g r a n e s .pos in rw (rest-some (pickOf g r a) r a pos (pick-fits g r a pos) n e s)
+
+  -- The same by what a step answered, t.
+
+  module _ (t : Taken) (s : told r a (step (pickOf g r a) r a n) ≡ Took t) where
+    bears-said : (e : Entry) → step (pickOf g r a) r a n ≡ some e → takenOf r a e ≡ t → eqBytes (partOf (drop (t .place) r) 24 (t .header .named)) name ≡ bears name e
+    unfolding bears
+    bears-said e o q = subst (λ (x : Taken). eqBytes (partOf (drop (x .place) r) 24 (x .header .named)) name ≡ bears name e) q
+        (ap (λ (l : List ℕ). eqBytes l name) (stands g r a n e o .named))
+
+    pub bearer-here : eqBytes (partOf (drop (t .place) r) 24 (t .header .named)) name ≡ true → Took t ≡ told r a (firstOf (bearersFrom (pickOf g r a) r a name n))
+    bearer-here b = let (e, o, q) = told-some r a (step (pickOf g r a) r a n) t s in go e o q
+      where
+        go : (e : Entry) → step (pickOf g r a) r a n ≡ some e → takenOf r a e ≡ t → Took t ≡ told r a (firstOf (bearersFrom (pickOf g r a) r a name n))
+        go e o q = rw (bearers-here e o, sym (bears-said e o q) ∙ b, ← q)
+
+    pub bearer-on : eqBytes (partOf (drop (t .place) r) 24 (t .header .named)) name ≡ false → bearersFrom (pickOf g r a) r a name n ≡ bearersFrom (pickOf g r a) r a name (t .next)
+    bearer-on b = let (e, o, q) = told-some r a (step (pickOf g r a) r a n) t s in go e o q
+      where
+        go : (e : Entry) → step (pickOf g r a) r a n ≡ some e → takenOf r a e ≡ t → bearersFrom (pickOf g r a) r a name n ≡ bearersFrom (pickOf g r a) r a name (t .next)
+        go e o q = rw (bearers-here e o, sym (bears-said e o q) ∙ b) (ap (λ (x : Taken). bearersFrom (pickOf g r a) r a name (x .next)) q)
+
+-- The plain lookup, by the first bearer that was found.
+
+pub first-found : (r : List ℕ) (a : ℕ) (l : List Entry) (t : Taken) → told r a (firstOf l) ≡ Took t → At t ≡ found r a (foremost l)
+unfolding foremost
+first-found r a [] t e = let z : _≡_ {A = ℕ} 0 1 = cc in absurd (omega arith)
+first-found r a (x ∷ l) t e = cc
+
+pub first-missing : (r : List ℕ) (a : ℕ) (l : List Entry) → told r a (firstOf l) ≡ NoneLeft → Refused 10 ≡ found r a (foremost l)
+unfolding foremost
+first-missing r a [] e = refl
+first-missing r a (x ∷ l) e = let z : _≡_ {A = ℕ} 0 1 = cc in absurd (omega arith)
+
+-- The bearers from n on are the first one and those from the number that it gives on.
+module _ (g : Bool) (r : List ℕ) (a : ℕ) (name : List ℕ) where
+  abbrev After : ℕ → Type 0
+  After n = (e : Entry) → firstOf (bearersFrom (pickOf g r a) r a name n) ≡ some e → bearersFrom (pickOf g r a) r a name n ≡ e ∷ bearersFrom (pickOf g r a) r a name (next r a e)
+
+  after-one : (n : ℕ) → ((m : ℕ) → n < m → After m) → After n
+  after-one n ih e f = by (step (pickOf g r a) r a n) refl
+    where
+      same : (x : Entry) (l : List Entry) → bearersFrom (pickOf g r a) r a name n ≡ x ∷ l → x ≡ e
+      same x l q = Option·some-injective x e (ap firstOf (sym q) ∙ f)
+
+      go : (x : Entry) → step (pickOf g r a) r a n ≡ some x → (b : Bool) → bears name x ≡ b
+          → bearersFrom (pickOf g r a) r a name n ≡ cond b (x ∷ bearersFrom (pickOf g r a) r a name (next r a x)) (bearersFrom (pickOf g r a) r a name (next r a x))
+          → bearersFrom (pickOf g r a) r a name n ≡ e ∷ bearersFrom (pickOf g r a) r a name (next r a e)
+      go x s true b q = q ∙ ap (λ (y : Entry). y ∷ bearersFrom (pickOf g r a) r a name (next r a y)) (same x _ q)
+      go x s false b q = q ∙ ih (next r a x) (stands g r a n x s .later) e (ap firstOf (sym q) ∙ f)
+
+      by : (o : Option Entry) → step (pickOf g r a) r a n ≡ o → bearersFrom (pickOf g r a) r a name n ≡ e ∷ bearersFrom (pickOf g r a) r a name (next r a e)
+      by none s = absurd (Option·none-ne-some e (ap firstOf (sym (bearers-end g r a n name s)) ∙ f))
+      by (some x) s = go x s (bears name x) refl (bearers-here g r a n name x s)
+
+  after-from : (d n : ℕ) → length r < n + d → After n
+  after-from zero n h e f = absurd (Option·none-ne-some e (ap firstOf (sym (bearers-end g r a n name (step-past (pickOf g r a) r a n (omega arith)))) ∙ f))
+  after-from (suc d) n h e f = after-one n (λ m l. after-from d m (omega arith)) e f
+
+  pub bearers-after : (n : ℕ) → After n
+  bearers-after n = after-from (suc (length r)) n (omega arith)
+
+  -- The guarded lookup, by the first bearer and by the first one after it.
+
+  pub only-missing : told r a (firstOf (bearersFrom (pickOf g r a) r a name 0)) ≡ NoneLeft → Refused 10 ≡ found r a (only (bearersFrom (pickOf g r a) r a name 0))
+  unfolding only
+  only-missing s = go (bearersFrom (pickOf g r a) r a name 0) s
+    where
+      go : (l : List Entry) → told r a (firstOf l) ≡ NoneLeft → Refused 10 ≡ found r a (only l)
+      go [] s = refl
+      go (x ∷ l) s = let z : _≡_ {A = ℕ} 0 1 = cc in absurd (omega arith)
+
+  module _ (t : Taken) (s : told r a (firstOf (bearersFrom (pickOf g r a) r a name 0)) ≡ Took t) where
+    alone : (e : Entry) → takenOf r a e ≡ t → (l : List Entry) → told r a (firstOf l) ≡ NoneLeft → At t ≡ found r a (only (e ∷ l))
+    unfolding only
+    alone e q [] u = ap At (sym q)
+    alone e q (x ∷ l) u = let z : _≡_ {A = ℕ} 0 1 = cc in absurd (omega arith)
+
+    not-alone : (e : Entry) (l : List Entry) (v : Taken) → told r a (firstOf l) ≡ Took v → Refused 11 ≡ found r a (only (e ∷ l))
+    unfolding only
+    not-alone e [] v u = let z : _≡_ {A = ℕ} 0 1 = cc in absurd (omega arith)
+    not-alone e (x ∷ l) v u = refl
+
+    pub only-found : told r a (firstOf (bearersFrom (pickOf g r a) r a name (t .next))) ≡ NoneLeft → At t ≡ found r a (only (bearersFrom (pickOf g r a) r a name 0))
+    only-found u = let (e, f, q) = told-some r a (firstOf (bearersFrom (pickOf g r a) r a name 0)) t s in go e f q
+      where
+        go : (e : Entry) → firstOf (bearersFrom (pickOf g r a) r a name 0) ≡ some e → takenOf r a e ≡ t → At t ≡ found r a (only (bearersFrom (pickOf g r a) r a name 0))
+        go e f q = rw (bearers-after 0 e f) (alone e q (bearersFrom (pickOf g r a) r a name (next r a e)) (ap (λ (x : Taken). told r a (firstOf (bearersFrom (pickOf g r a) r a name (x .next)))) q ∙ u))
+
+    pub only-twice : (v : Taken) → told r a (firstOf (bearersFrom (pickOf g r a) r a name (t .next))) ≡ Took v → Refused 11 ≡ found r a (only (bearersFrom (pickOf g r a) r a name 0))
+    only-twice v u = let (e, f, q) = told-some r a (firstOf (bearersFrom (pickOf g r a) r a name 0)) t s in go e f q
+      where
+        go : (e : Entry) → firstOf (bearersFrom (pickOf g r a) r a name 0) ≡ some e → takenOf r a e ≡ t → Refused 11 ≡ found r a (only (bearersFrom (pickOf g r a) r a name 0))
+        go e f q = rw (bearers-after 0 e f) (not-alone e (bearersFrom (pickOf g r a) r a name (next r a e)) v (ap (λ (x : Taken). told r a (firstOf (bearersFrom (pickOf g r a) r a name (x .next)))) q ∙ u))
