@@ -188,7 +188,12 @@ struct Directory {
     places: [usize; LIMIT],
 }
 
-// One pass: a place with the magic that is ill formed, or that lies in a span, is astray. Then the names are compared pairwise.
+// A number made of a name's bytes. Names with different digests differ.
+fn digest(name: &[u8]) -> u32 {
+    name.iter().fold(0, |h: u32, &b| h.wrapping_mul(31).wrapping_add(u32::from(b)))
+}
+
+// One pass: a place with the magic that is ill formed, or that lies in a span, is astray. Then the names are compared pairwise, by their digests first.
 fn strict_check(image: &[u8]) -> Result<Directory, Refusal> {
     let region = region(image)?;
     let length = region.bytes.len();
@@ -216,7 +221,12 @@ fn strict_check(image: &[u8]) -> Result<Directory, Refusal> {
         return refused(13);
     }
     let names = &names[..directory.count];
-    if names.iter().enumerate().any(|(i, name)| names[i + 1..].contains(name)) {
+    let mut digests = [0; LIMIT];
+    for (digest_of, name) in digests.iter_mut().zip(names) {
+        *digest_of = digest(name);
+    }
+    let alike = |i: usize, k: usize| digests[i] == digests[k] && names[i] == names[k];
+    if (0..names.len()).any(|i| (i + 1..names.len()).any(|k| alike(i, k))) {
         return refused(11);
     }
     Ok(directory)

@@ -1,23 +1,18 @@
 -- What the tests on an area, or on two, say: each as a fact.
-use Prim.Native.Nat.{ℕ, _≤_, _<_}
+use Prim.Native.Nat.{ℕ}
 use mathlib.Core.Path.{_≡_, refl, sym, _∙_}
-use mathlib.Core.Logic.{_⊎_, inl, inr}
+use mathlib.Core.Logic.{inl, inr}
 use mathlib.Core.Bool.{Bool, true, false, cond, not, _||_, true≢false}
 use mathlib.Core.List.{List, [], _∷_}
 use lib.ListN.{length, getD}
 use lib.Dec.{leb}
 use borrow.Author.Tests.{leb-true}
-use Rattle.number.specs.Tests.{every, all}
+use Rattle.number.specs.Tests.{every, all, isPrintable}
 use Rattle.number.proofs.Passing.{passes}
 use Rattle.number.proofs.SameBytes.{eq-true, eq-refl}
-use Rattle.area.specs.Names.{isPrintable, printed, nameTests, nameFits, nameOf, nameAt}
-use Rattle.area.specs.Area.{endOf, bears, sameName, extentFits, disjoint, holds, cross, ownName, ownTests, holdsMap}
+use Rattle.area.specs.Names.{Fit, printed, nameTests, nameFits, nameOf, nameAt}
+use Rattle.area.specs.Area.{Inside, Apart, Holds, ApartOrNested, Own, endOf, bears, sameName, extentFits, disjoint, holds, cross, ownTests, holdsMap}
 use Rattle.area.specs.declared.Area.{Area}
-
--- An area that is not empty and ends at l or before.
-pub record Inside (l : ℕ) (a : Area) : Type 0 where
-  pub some-byte : 0 < a .size
-  pub within : endOf a ≤ l
 
 pub extent : (l : ℕ) (a : Area) → extentFits l a ≡ true → Inside l a
 unfolding extentFits
@@ -25,12 +20,6 @@ extent l a e = record { some-byte = leb-true 1 (a .size) (p 0); within = leb-tru
   where
     p : (k : ℕ) → getD (leb 1 (a .size) ∷ leb (endOf a) l ∷ []) k true ≡ true
     p k = passes k (leb 1 (a .size) ∷ leb (endOf a) l ∷ []) e
-
--- A fit name: 1 to 31 bytes of 0x21 to 0x7E.
-pub record Fit (n : List ℕ) : Type 0 where
-  pub some-byte : 1 ≤ length n
-  pub most : length n ≤ 31
-  pub letters : all isPrintable n ≡ true
 
 all-printed : (f : List ℕ) → all isPrintable (printed f) ≡ true
 unfolding all printed
@@ -48,16 +37,7 @@ fit f e = rw e (record { some-byte = leb-true 1 (length (printed f)) (p 0); most
     p : (k : ℕ) → getD (nameTests f (printed f)) k true ≡ true
     p k = passes k (nameTests f (printed f)) e
 
--- Two areas share no byte; one holds the other.
-
-abbrev pub Apart : Area → Area → Type 0
-Apart a b = (endOf a ≤ b .offset) ⊎ (endOf b ≤ a .offset)
-
-abbrev pub Holds : Area → Area → Type 0
-Holds a b = (a .offset ≤ b .offset) × (endOf b ≤ endOf a)
-
-abbrev pub ApartOrNested : Area → Area → Type 0
-ApartOrNested a b = Apart a b ⊎ (Holds a b ⊎ Holds b a)
+-- Two areas.
 
 pub turned : (a b : Area) → ApartOrNested a b → ApartOrNested b a
 turned a b (inl (inl h)) = inl (inr h)
@@ -89,12 +69,6 @@ uncrossed a b e = go (disjoint a b) refl (holds a b) refl (holds b a) refl e
     go false p true q z r f = inr (inl (within a b q))
     go false p false q true r f = inr (inr (within b a r))
     go false p false q false r f = absurd (true≢false f)
-
--- An area that is named FMAP and holds the bytes from `at` up to e.
-pub record Own (s : List ℕ) (at e : ℕ) (a : Area) : Type 0 where
-  pub name : nameAt s (a .name) ≡ ownName
-  pub from : a .offset ≤ at
-  pub end : e ≤ endOf a
 
 pub own : (s : List ℕ) (at e : ℕ) (a : Area) → holdsMap s at e a ≡ true → Own s at e a
 unfolding holdsMap ownTests bears

@@ -1,5 +1,7 @@
 -- An area of a flash map in the bytes s, and the tests on one area or two (document 01, "Flash map", and refusals 33 to 37).
-use Prim.Native.Nat.{ℕ, _+_}
+use Prim.Native.Nat.{ℕ, _+_, _≤_, _<_}
+use mathlib.Core.Path.{_≡_}
+use mathlib.Core.Logic.{_⊎_}
 use mathlib.Core.List.{List, [], _∷_}
 use mathlib.Core.Bool.{Bool, cond, not, _||_}
 use lib.ListN.{length, drop}
@@ -64,3 +66,27 @@ holdsMap s at e a = every (ownTests s at e a)
 -- The tests on an area by itself, in the order of their refusals: 33, then 35. Areas may not pass l.
 unfoldable pub areaTests : List ℕ → ℕ → Area → List Test
 areaTests s l a = test 33 (nameFits (drop (a .name) s)) ∷ test 35 (extentFits l a) ∷ []
+
+-- For what is promised of maps.
+
+-- An area that is not empty and ends at l or before.
+pub record Inside (l : ℕ) (a : Area) : Type 0 where
+  pub some-byte : 0 < a .size
+  pub within : endOf a ≤ l
+
+-- Two areas share no byte; one holds the other.
+
+abbrev pub Apart : Area → Area → Type 0
+Apart a b = (endOf a ≤ b .offset) ⊎ (endOf b ≤ a .offset)
+
+abbrev pub Holds : Area → Area → Type 0
+Holds a b = (a .offset ≤ b .offset) × (endOf b ≤ endOf a)
+
+abbrev pub ApartOrNested : Area → Area → Type 0
+ApartOrNested a b = Apart a b ⊎ (Holds a b ⊎ Holds b a)
+
+-- An area that is named FMAP and holds the bytes from `at` up to e.
+pub record Own (s : List ℕ) (at e : ℕ) (a : Area) : Type 0 where
+  pub name : nameAt s (a .name) ≡ ownName
+  pub from : a .offset ≤ at
+  pub end : e ≤ endOf a

@@ -1,13 +1,11 @@
 -- Names of areas (document 01, "Flash map"): 1 to 31 bytes of 0x21 to 0x7E, then a zero; what follows is not read.
-use Prim.Native.Nat.{ℕ}
+use Prim.Native.Nat.{ℕ, _≤_}
+use mathlib.Core.Path.{_≡_}
 use mathlib.Core.List.{List, [], _∷_}
-use mathlib.Core.Bool.{Bool, cond}
+use mathlib.Core.Bool.{Bool, true, cond}
 use lib.ListN.{length, drop, getD}
 use lib.Dec.{leb, eqb}
-use Rattle.number.specs.Tests.{every}
-
-abbrev pub isPrintable : ℕ → Bool
-isPrintable b = every (leb 0x21 b ∷ leb b 0x7E ∷ [])
+use Rattle.number.specs.Tests.{every, all, isPrintable}
 
 -- The bytes of 0x21 to 0x7E at the start.
 unfoldable pub printed : List ℕ → List ℕ
@@ -29,3 +27,9 @@ nameOf f = cond (nameFits f) (printed f) []
 -- The name that stands in s at p.
 abbrev pub nameAt : List ℕ → ℕ → List ℕ
 nameAt s p = nameOf (drop p s)
+
+-- For what is promised of maps: a fit name: 1 to 31 bytes of 0x21 to 0x7E.
+pub record Fit (n : List ℕ) : Type 0 where
+  pub some-byte : 1 ≤ length n
+  pub most : length n ≤ 31
+  pub letters : all isPrintable n ≡ true

@@ -23,7 +23,7 @@ use Rattle.strict.specs.Directory.{directory}
 use Rattle.strict.proofs.Verdicts.{no-other, refused-12-lowest}
 use Rattle.region.specs.Region.{foundAt}
 use Rattle.region.specs.declared.Found.the-variants.{Refused as LookupRefused}
-use Rattle.cbfs.specs.Cbfs.{findOf, strictCheck}
+use Rattle.reading.specs.Reading.{findOf, strictCheck}
 
 -- The master header's refusals tell place 0.
 pub header-place : (i : List ℕ) (r : Refusal) → master i ≡ HeaderRefused r → r .place ≡ 0

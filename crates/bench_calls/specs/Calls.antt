@@ -1,4 +1,4 @@
--- What each exported call answers for an image i: one number, over the definitions that the contracts of `cbfs` cite.
+-- What each exported call answers for an image i: one number, over the definitions that the contracts of `reading` cite.
 -- A count or a place of an image is below 2^32, and every refusal is at or above it (proofs/Apart.antt).
 use Prim.Native.Nat.{ℕ, _+_, _*_, _^_}
 use mathlib.Core.List.{List}
@@ -9,15 +9,23 @@ use Rattle.walk.specs.Walk.{Entry, pickOf, listing}
 use Rattle.terms.specs.Terms.{bytesOf}
 use Rattle.terms.specs.declared.Region.{Region}
 use Rattle.terms.specs.declared.Refusal.{Refusal}
+use Rattle.master.specs.declared.Master.{Master}
+use Rattle.master.specs.declared.Master.the-variants.{Read}
+use Rattle.master.specs.declared.Master.the-variants.{Refused as HeaderRefused}
 use Rattle.master.specs.Master.{master}
 use Rattle.strict.specs.declared.Directory.{Directory}
 use Rattle.region.specs.declared.Found.{Found}
 use Rattle.region.specs.declared.Found.the-variants.{At, Refused}
-use Rattle.cbfs.specs.Cbfs.{planOn as onRegion, findOf, strictCheck}
+use Rattle.reading.specs.Reading.{findOf, strictCheck}
 
 -- A refusal: its number in the upper 32 bits, the place that it tells in the lower.
 abbrev pub refusalNumber : Refusal → ℕ
 refusalNumber r = r .number * 2 ^ 32 + r .place
+
+-- The number of what a call over the region gives, or refusals 1 to 8.
+abbrev pub onRegion : Master → (Region → ℕ) → ℕ
+onRegion (Read g) call = call g
+onRegion (HeaderRefused r) call = refusalNumber r
 
 -- The listing of the image's region by the walk that w chooses: the guarded one where it is true.
 abbrev pub listed : Bool → List ℕ → Region → List Entry
@@ -26,7 +34,7 @@ listed w i g = listing (pickOf w (bytesOf i g) (g .align)) (bytesOf i g) (g .ali
 -- How many components that listing has, or refusals 1 to 8.
 
 abbrev pub countOf : Bool → List ℕ → ℕ
-countOf w i = onRegion (master i) refusalNumber (λ g. length (listed w i g))
+countOf w i = onRegion (master i) (λ g. length (listed w i g))
 
 abbrev pub plainCount : List ℕ → ℕ
 plainCount i = countOf false i

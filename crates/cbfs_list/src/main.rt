@@ -1,10 +1,10 @@
 // The listing program: an image of at most 65,536 bytes from standard input, listed by the plain walk (document 01, "Bench image A").
 // The listing is gathered on a page, whose first `used` bytes are in use, and written once.
+use cbfs::Master;
+use cbfs::Step;
+use cbfs::Taken;
 use libc::STDIN_FILENO;
 use libc::STDOUT_FILENO;
-use master::Master;
-use region::Step;
-use walk::Taken;
 
 // Room for any listing: a component takes 24 bytes of the image and more, and its line 22 and its name.
 type Page = [u8; 262144];

@@ -4,21 +4,21 @@ mod input;
 mod output;
 
 use area::Area;
-use editor::Edited;
+use cbfs::Edited;
+use cbfs::Found;
+use cbfs::Master;
+use cbfs::PayloadPlan;
+use cbfs::Refusal;
+use cbfs::Segment;
+use cbfs::Step;
+use cbfs::Taken;
 use fmap::Map;
 use input::Bytes;
 use input::Case;
 use input::Name;
-use load::Segment;
-use master::Master;
 use output::Numbers;
 use output::Page;
 use output::Word;
-use payload::PayloadPlan;
-use region::Found;
-use region::Step;
-use terms::Refusal;
-use walk::Taken;
 
 // A refusal; all else in the answer is zero or empty exactly if `rest` is 0.
 fn refused(page: &mut Page, used: usize, r: Refusal, rest: usize) -> usize {

@@ -18,7 +18,7 @@ use Rattle.strict.specs.Strict.{limit, Verdict, refused, accepted, placesOf, ve
 use Rattle.strict.specs.Directory.{directory}
 use Rattle.strict.proofs.Verdicts.{accepted-exactly, no-other}
 use Rattle.strict.proofs.Accepting.{walks-agree}
-use Rattle.cbfs.specs.Cbfs.{strictCheck}
+use Rattle.reading.specs.Reading.{strictCheck}
 use Rattle.claims.specs.Demand3.{AcceptedImage, Spoiled, Demand3}
 use Rattle.claims.proofs.Spoiling.{demand-3}
 

@@ -7,8 +7,7 @@ use mathlib.Core.Logic.{_↔_}
 use mathlib.Core.Bool.{true, cond}
 use lib.ListN.{length}
 use lib.Dec.{eqb}
-use Rattle.walk.specs.Walk.{carries, plainListing}
-use Rattle.walk.specs.Walk.{Place}
+use Rattle.walk.specs.Walk.{carries, plainListing, Place}
 use Rattle.terms.specs.Terms.{bytesOf, refusedBy}
 use Rattle.terms.specs.declared.Region.{Region}
 use Rattle.terms.specs.declared.Refusal.{Refusal}
@@ -17,15 +16,15 @@ use Rattle.master.specs.declared.Master.{Master}
 use Rattle.master.specs.declared.Master.the-variants.{Read, Refused}
 use Rattle.master.proofs.Facts.{known}
 use Rattle.strict.specs.Strict.{limit}
-use Rattle.edit.specs.Edit.{Free, Bytes, Reply, refusal, done, spanBytes, buries, adding, refuse, add}
-use Rattle.edit.proofs.Decisions.{clash, not-write, refused-is, check-late, Open, Addable, AddCase, unfit, used, full, hidden, nowhere, placed, add-case}
+use Rattle.edit.specs.Edit.{Free, Bytes, Reply, refusal, done, spanBytes, buries, adding, refuse, add, Open, Addable}
+use Rattle.edit.proofs.Decisions.{clash, not-write, refused-is, check-late, AddCase, unfit, used, full, hidden, nowhere, placed, add-case}
 use Rattle.edit.proofs.Theorems.{buries-exactly}
 use Rattle.edit.proofs.Exactly.{held-exactly, add-16, add-17-free, add-does}
 use Rattle.editor.specs.Image.{Result, answerOf, addIn, replaceIn, removeIn}
 use Rattle.editor.specs.declared.Edited.the-variants.{Done}
 use Rattle.editor.specs.declared.Edited.the-variants.{Refused as EditRefused}
 use Rattle.editor.proofs.Around.{add-same, replace-same, remove-same}
-use Rattle.cbfs.specs.Cbfs.{editOn, added, replaced, removed}
+use Rattle.editing.specs.Editing.{editOn, added, replaced, removed}
 use Rattle.claims.specs.Demand3.{AcceptedImage}
 use Rattle.claims.specs.Demand2.{AddDone, ReplaceDone, RemoveDone}
 use Rattle.claims.proofs.Images.{bytes-length}

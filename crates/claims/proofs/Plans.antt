@@ -17,7 +17,8 @@ use Rattle.stage.specs.Accepted.{AcceptedStage}
 use Rattle.payload.specs.Accepted.{AcceptedPayload}
 use Rattle.stage.proofs.Theorems as Stage
 use Rattle.payload.proofs.Theorems as Payload
-use Rattle.cbfs.specs.Cbfs.{guardedFind, guardedContent, planOn, stage, payload}
+use Rattle.reading.specs.Reading.{guardedFind, guardedContent}
+use Rattle.planning.specs.Planning.{planOn, stage, payload}
 
 -- What the number of an answer tells, for plans A of either kind.
 module _ {A : Type 0} (number : A → ℕ) (refusal : Refusal → A) (told : (r : Refusal) → number (refusal r) ≡ r .number) (i : List ℕ) (call : Region → A) where

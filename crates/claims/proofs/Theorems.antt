@@ -5,12 +5,10 @@ use mathlib.Core.Path.{_≡_, refl, sym, ap, subst}
 use mathlib.Core.List.{List, map, List·Memᴰ}
 use mathlib.Core.Logic.{_↔_}
 use mathlib.Core.Bool.{Bool, true, false}
-use Rattle.walk.specs.Walk.{Entry, placesBelow, pickOf, listing, plainListing, guardedListing}
-use Rattle.lookup.specs.Lookup.{Answer, refused, gives, bears, plainLookup}
+use Rattle.walk.specs.Walk.{Entry, placesBelow, pickOf, listing, plainListing, guardedListing, Rounded}
+use Rattle.lookup.specs.Lookup.{Answer, refused, gives, bears, plainLookup, FirstBearer}
 use Rattle.walk.specs.declared.Taken.{Taken}
-use Rattle.walk.specs.Walk.{Rounded}
 use Rattle.walk.proofs.Rounding.{rounded}
-use Rattle.lookup.specs.Lookup.{FirstBearer}
 use Rattle.lookup.proofs.Bearers.{first-bearer, no-bearer}
 use Rattle.terms.specs.Terms.{bytesOf, refusedBy}
 use Rattle.terms.specs.declared.Region.{Region}
@@ -24,7 +22,7 @@ use Rattle.region.specs.declared.Found.the-variants.{At}
 use Rattle.region.specs.declared.Found.the-variants.{Refused as FoundRefused}
 use Rattle.region.proofs.Numbers as Numbers
 use Rattle.region.proofs.Listing as Listing
-use Rattle.cbfs.specs.Cbfs.{stepOn, stepOf, plainStep, guardedStep, plainFind, plainContent}
+use Rattle.reading.specs.Reading.{stepOn, stepOf, plainStep, guardedStep, plainFind, plainContent}
 
 -- An image i that is read, and its region g.
 module _ (i : List ℕ) (g : Region) (read : master i ≡ Read g) where

@@ -21,7 +21,7 @@ use Rattle.payload.specs.Payload.{codeType, entryType, segmentAt, bssTests, par
 use Rattle.load.proofs.Bench.{named}
 use Rattle.stage.proofs.Worked.{header}
 use Rattle.payload.proofs.Worked.{code, entry}
-use Rattle.cbfs.specs.Cbfs.{stage, payload}
+use Rattle.planning.specs.Planning.{stage, payload}
 
 -- A stage named s at 0 and a payload named p at 128; the region ends at 256, where the master header stands, and P after it. P's lowest byte is given.
 abbrev image : ℕ → List ℕ

@@ -6,17 +6,17 @@ use mathlib.Core.List.{List, [], map, List·Memᴰ}
 use mathlib.Core.Bool.{Bool, true, false}
 use lib.ListN.{length, getD}
 use lib.Dec.{eqb}
-use Rattle.walk.specs.Walk.{Entry, end, pickOf, listing}
+use Rattle.walk.specs.Walk.{Entry, end, pickOf, listing, Place}
 use Rattle.walk.specs.declared.Taken.{Taken}
-use Rattle.walk.specs.Walk.{Place}
 use Rattle.terms.specs.Terms.{bytesOf, refusedBy}
 use Rattle.terms.specs.declared.Region.{Region}
 use Rattle.master.specs.Master.{master}
 use Rattle.master.specs.declared.Master.the-variants.{Read}
-use Rattle.edit.specs.Edit.{offsetFor, spanBytes, putIn, instead, without, Free}
+use Rattle.edit.specs.Edit.{spanBytes, putIn, instead, without, made, Free}
 use Rattle.editor.specs.declared.Edited.the-variants.{Done}
 use Rattle.region.specs.declared.Found.the-variants.{At, Refused}
-use Rattle.cbfs.specs.Cbfs.{findOf, contentFoundBy, strictCheck, removed}
+use Rattle.reading.specs.Reading.{findOf, contentFoundBy, strictCheck}
+use Rattle.editing.specs.Editing.{removed}
 use Rattle.claims.specs.Demand3.{placed, guardedEntries, inSlots}
 
 -- The listing of the image by a walk: each entry holds place, type, name and content.
@@ -25,7 +25,7 @@ entries w i g = map (placed g) (listing (pickOf w (bytesOf i g) (g .align)) (byt
 
 -- The component of these, at the place p.
 abbrev pub entryAt : ℕ → List ℕ → ℕ → List ℕ → Entry
-entryAt p name kind content = record { place = p; component = record { offset = offsetFor name; len = length content; kind = kind; name = name; content = content } }
+entryAt p name kind content = record { place = p; component = made name kind content }
 
 -- "The new content is found under its name": by both lookups, at the place p, with the type.
 pub record FoundThere (i′ : List ℕ) (p : ℕ) (name : List ℕ) (kind : ℕ) (content : List ℕ) : Type 0 where

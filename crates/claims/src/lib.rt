@@ -1,1 +1,1 @@
-// What is proved of whole images, over the definitions that the contracts of crate `cbfs` cite: theorems alone, no code.
+// What is proved of whole images, over the definitions that the public calls cite: theorems alone, no code.

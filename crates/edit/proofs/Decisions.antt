@@ -1,5 +1,5 @@
 -- What an edit decides, case by case, in document 01's order of refusals.
-use Prim.Native.Nat.{ℕ, _≤_, _<_}
+use Prim.Native.Nat.{ℕ, _≤_}
 use native.Mathlib.Omega.{arith}
 use mathlib.Core.Path.{_≡_, refl, sym, ap, _∙_}
 use mathlib.Core.List.{List, []}
@@ -15,7 +15,7 @@ use Rattle.walk.specs.Walk.{Entry, plainListing}
 use Rattle.lookup.specs.Lookup.{bears}
 use Rattle.strict.specs.Strict.{Accepted, Verdict, refused, accepted, verdict, placesOf}
 use Rattle.strict.proofs.Verdicts.{accepted-exactly, no-other}
-use Rattle.edit.specs.Edit.{Run, holds, runs, lowest, Slot, slotOf, buries, spanBytes, Decision, refuse, write, afterCheck, adding, renewing, clearing, filled, refusal, done, carriedOut}
+use Rattle.edit.specs.Edit.{Run, holds, runs, lowest, Slot, slotOf, buries, spanBytes, Decision, refuse, write, afterCheck, adding, renewing, clearing, filled, refusal, done, carriedOut, Open, Addable}
 
 -- No decision is two of these.
 
@@ -103,17 +103,6 @@ module _ (r : List ℕ) (a : ℕ) (d : Decision) where
       go : (v : Verdict) → verdict 256 r a ≡ v → afterCheck v d ≡ refuse n p → Accepted r a × (d ≡ refuse n p)
       go (refused m q) w e′ = absurd (by m (unfold numberIn in ap numberIn e′) q (no-other 256 r a m q w))
       go (accepted ps) w e′ = (accepted-exactly r a ps .0 w .0, e′)
-
--- What an add needs before 16, and before it looks for room.
-
-pub record Open (most : ℕ) (name : List ℕ) (l : List Entry) : Type 0 where
-  pub named : nameFits name ≡ true
-  pub unused : any (bears name) l ≡ false
-  pub few : length l < most
-
-pub record Addable (most a : ℕ) (name s : List ℕ) (l : List Entry) : Type 0 where
-  pub free : Open most name l
-  pub clean : buries a s ≡ false
 
 pub data AddCase (most : ℕ) (r : List ℕ) (a : ℕ) (name s : List ℕ) (l : List Entry) : Type 0 where
   unfit : nameFits name ≡ false → adding most r a name s l ≡ refuse 14 0 → AddCase most r a name s l

@@ -15,15 +15,15 @@ use borrow.Author.Tests.{leb-true, ltb-true, le-leb, lt-leb, lt-ltb, le-ltb}
 use Rattle.number.proofs.SameBytes.{eq-true}
 use Rattle.component.specs.Component.{Component, span, magic, startsWithMagic}
 use Rattle.number.specs.Lists.{keep}
-use Rattle.walk.specs.Walk.{Entry, end, carries, plain, guarded, guardedListing}
-use Rattle.walk.specs.Walk.{Place}
+use Rattle.walk.specs.Walk.{Entry, end, carries, plain, guarded, guardedListing, Place}
 use Rattle.walk.proofs.Picks.{carries-fits, buried-false, buried-of, guarded-of, guarded-carries}
 use Rattle.number.proofs.Tested.{both-true}
-use Rattle.strict.proofs.Frames.{Sound, Frame, mem-guarded, guarded-mem, place-far, same-rest, still-sound}
+use Rattle.strict.proofs.Frames.{Frame, mem-guarded, guarded-mem, place-far, same-rest, still-sound}
 use Rattle.strict.proofs.Slots.{guarded-rising}
-use Rattle.edit.specs.Edit.{Run, buries, spanBytes, filled, putIn}
-use Rattle.edit.proofs.Written.{Fit, made, judge-written, length-span, filled-length, filled-before, filled-ones, filled-after, filled-part}
+use Rattle.edit.specs.Edit.{Run, buries, spanBytes, filled, putIn, made}
+use Rattle.edit.proofs.Written.{Fit, judge-written, length-span, filled-length, filled-before, filled-ones, filled-after, filled-part}
 use Rattle.edit.proofs.Lists.{put-back}
+use Rattle.strict.specs.Strict.{Sound}
 
 -- The letters of a magic that is carried: its first and its last.
 

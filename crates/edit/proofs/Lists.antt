@@ -13,10 +13,8 @@ use Rattle.number.proofs.SameBytes.{eq-true, eq-refl}
 use Rattle.number.specs.Lists.{any, keep}
 use Rattle.walk.specs.Walk.{Entry}
 use Rattle.lookup.specs.Lookup.{bears}
-use Rattle.number.proofs.Tested.{any-false, none-any, or-false}
-use Rattle.number.proofs.Tested.{mem-keep}
+use Rattle.number.proofs.Tested.{any-false, none-any, or-false, mem-keep, both-true, keep-comm}
 use Rattle.strict.specs.Strict.{toldApart}
-use Rattle.number.proofs.Tested.{both-true, keep-comm}
 use Rattle.strict.proofs.Slots.{Rising}
 use Rattle.edit.specs.Edit.{putIn, instead, without}
 

@@ -14,19 +14,18 @@ use Rattle.walk.specs.Walk.{Entry, end, carries, plainListing, guardedListing}
 use Rattle.lookup.specs.Lookup.{refused, gives, only, foremost, bears, plainLookup, guardedLookup}
 use Rattle.walk.proofs.Picks.{guarded-carries}
 use Rattle.lookup.proofs.Bearers.{bears-name}
-use Rattle.strict.specs.Strict.{toldApart, Accepted}
+use Rattle.strict.specs.Strict.{toldApart, Accepted, Sound}
 use Rattle.strict.specs.Slots.{hit, Spoilt}
 use Rattle.number.proofs.Tested.{keep-same, keep-comm}
-use Rattle.strict.proofs.Frames.{Sound, mem-guarded, still-sound}
+use Rattle.strict.proofs.Frames.{mem-guarded, still-sound}
 use Rattle.strict.proofs.Slots.{Clear, same-slot, hit-own, guarded-rising}
 use Rattle.strict.proofs.Bearing.{lone}
 use Rattle.strict.proofs.Accepting.{taken-sound, walks-agree, accepted-context-free}
-use Rattle.edit.specs.Edit.{Run, Slot, slotOf, freeRuns, lowest, buries, spanBytes, filled, putIn, instead, without}
-use Rattle.edit.proofs.Written.{Fit, name-fit, made, length-span, filled-length, filled-ones}
+use Rattle.edit.specs.Edit.{Run, Slot, slotOf, freeRuns, lowest, buries, spanBytes, filled, putIn, instead, without, made, HeldAt, Addable}
+use Rattle.edit.proofs.Written.{Fit, name-fit, length-span, filled-length, filled-ones}
 use Rattle.edit.proofs.Lists.{keep-all, length-keep, apart-keep, put-instead, length-put, length-instead, apart-put, apart-instead, keep-put, keep-instead, keep-without, bears-not}
 use Rattle.edit.proofs.Filling.{Room, inRun, in-true, in-of, out-after, out-before, carries-first, outside, frame, rest-same, new-listed, alone, new-listing, new-sound}
-use Rattle.edit.proofs.Runs.{row, Gap, mem-runs, HeldAt, lowest-some, lowest-least, Own, slot-own, slot-within, gap-room, own-room}
-use Rattle.edit.proofs.Decisions.{Addable}
+use Rattle.edit.proofs.Runs.{row, Gap, mem-runs, lowest-some, lowest-least, Own, slot-own, slot-within, gap-room, own-room}
 
 -- The component of these, at p.
 abbrev pub at : ℕ → List ℕ → ℕ → List ℕ → Entry

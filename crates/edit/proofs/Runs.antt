@@ -9,9 +9,8 @@ use mathlib.Core.Option.{some, none, Option·some-injective, Option·none-ne-som
 use lib.ListN.{length}
 use lib.Dec.{leb, ltb, eqb}
 use borrow.Author.Tests.{leb-true, le-leb, eq-eqb, ne-eqb}
-use Rattle.walk.specs.Walk.{Entry, end, onward, next, guarded, guardedListing}
+use Rattle.walk.specs.Walk.{Entry, end, onward, next, guarded, guardedListing, Place}
 use Rattle.lookup.specs.Lookup.{bears}
-use Rattle.walk.specs.Walk.{Place}
 use Rattle.walk.proofs.Places.{below-ge, below-least}
 use Rattle.walk.proofs.Steps.{listing-apart, onward-stop}
 use Rattle.walk.proofs.Picks.{guarded-fits}
@@ -19,7 +18,7 @@ use Rattle.strict.specs.Slots.{start, within}
 use Rattle.number.proofs.Tested.{both-true}
 use Rattle.strict.proofs.Frames.{mem-guarded}
 use Rattle.strict.proofs.Slots.{Rising, guarded-rising, start-after, start-before}
-use Rattle.edit.specs.Edit.{Run, holds, runs, lowest, Slot, slotOf}
+use Rattle.edit.specs.Edit.{Run, holds, runs, lowest, Slot, slotOf, HeldAt}
 use Rattle.edit.proofs.Filling.{Room, inRun}
 
 -- The run holds n bytes, by the test and by the numbers.
@@ -132,10 +131,6 @@ module _ (r : List ℕ) (a : ℕ) (pos : 0 < a) where
       go (inl f) ih =
           let (x, i, u, v) = ih (next-le r a pos t q pl f) in
           (x, List·Memᴰ·tail i, u, v)
-
--- A run of the list holds n bytes from q on.
-abbrev pub HeldAt : ℕ → List Run → ℕ → Type 0
-HeldAt n l q = (n ≤ 0xFFFFFFFF) × (x : Run) × List·Memᴰ x l × (x .from ≤ q) × (q + n ≤ x .to)
 
 -- The lowest run that holds n bytes: none exactly if none does.
 pub lowest-none : (n : ℕ) (l : List Run) → lowest n l ≡ none → (q : ℕ) → HeldAt n l q → ⊥

@@ -15,9 +15,8 @@ use Rattle.component.specs.Names.{nameFits}
 use Rattle.component.specs.Component.{Component, componentOf}
 use Rattle.component.proofs.Judging.{formed, judge-name}
 use Rattle.number.specs.Lists.{any}
-use Rattle.walk.specs.Walk.{Entry, carries, buried, places, placesBelow, plainListing}
+use Rattle.walk.specs.Walk.{Entry, carries, buried, places, placesBelow, plainListing, Place}
 use Rattle.lookup.specs.Lookup.{bears}
-use Rattle.walk.specs.Walk.{Place}
 use Rattle.walk.proofs.Places.{mem-places}
 use Rattle.walk.proofs.Picks.{carries-fits, buried-false}
 use Rattle.walk.proofs.Members.{given}
@@ -25,10 +24,10 @@ use Rattle.lookup.proofs.Bearers.{bears-name}
 use Rattle.strict.specs.Strict.{Accepted, refused, verdict}
 use Rattle.strict.specs.Slots.{start}
 use Rattle.number.proofs.Tested.{any-true}
-use Rattle.edit.specs.Edit.{Bytes, Run, holds, Slot, slotOf, freeRuns, lowest, buries, spanBytes, filled, write, afterCheck, adding, renewing, clearing, refusal, done, carriedOut, add, replace, remove}
+use Rattle.edit.specs.Edit.{Bytes, Run, holds, Slot, slotOf, freeRuns, lowest, buries, spanBytes, filled, write, afterCheck, adding, renewing, clearing, refusal, done, carriedOut, add, replace, remove, Addable}
 use Rattle.edit.proofs.Written.{Fit, name-fit, length-span}
 use Rattle.edit.proofs.Runs.{holds-true}
-use Rattle.edit.proofs.Decisions.{not-write, same-write, is-refused, refused-same, does, check-accepted, check-refused, check-write, Addable, AddCase, unfit, used, full, hidden, nowhere, placed, add-case, RenewCase, unborne, burying, long, fitting, renew-case, ClearCase, missing, clears, clear-case}
+use Rattle.edit.proofs.Decisions.{not-write, same-write, is-refused, refused-same, does, check-accepted, check-refused, check-write, AddCase, unfit, used, full, hidden, nowhere, placed, add-case, RenewCase, unborne, burying, long, fitting, renew-case, ClearCase, missing, clears, clear-case}
 use Rattle.edit.proofs.Outcomes.{Added, Replaced, Removed, added, replaced, removed, at}
 
 be-below : (w : ℕ) (s : List ℕ) (i : ℕ) → Bytes s → be w s i < 256 ^ w

@@ -11,13 +11,13 @@ use lib.Dec.{leb, eqb}
 use borrow.Author.Tests.{leb-true, le-leb, lt-ltb, ne-eqb}
 use Rattle.number.specs.Number.{be, beBytes}
 use Rattle.number.specs.Bytes.{eqBytes, splice}
-use Rattle.number.specs.Tests.{all}
+use Rattle.number.specs.Tests.{all, isPrintable}
 use Rattle.number.proofs.Digits.{length-beBytes, be-beBytes}
 use Rattle.number.proofs.Passing.{passes}
-use Rattle.component.specs.Names.{isPrintable, isZero, nameTests, nameFits, beforeZero, fieldTests, fieldFits}
-use Rattle.component.specs.Component.{Component, magic, startsWithMagic, lenOf, kindOf, offsetOf, nameField, componentOf, judge}
+use Rattle.component.specs.Names.{isZero, nameTests, nameFits, beforeZero, fieldTests, fieldFits}
+use Rattle.component.specs.Component.{magic, startsWithMagic, lenOf, kindOf, offsetOf, nameField, componentOf, judge}
 use Rattle.component.proofs.Judging.{unformed}
-use Rattle.edit.specs.Edit.{fieldSize, offsetFor, headerBytes, fieldBytes, spanBytes, Run, filled}
+use Rattle.edit.specs.Edit.{fieldSize, offsetFor, headerBytes, fieldBytes, spanBytes, Run, filled, made}
 
 -- The field holds a byte more than the name, has 16 to 256 bytes, and its size is a multiple of 16.
 
@@ -92,10 +92,6 @@ length-field name = simp (length-append, length-replicate) (omega (arith, field-
 pub length-span : (name : List ℕ) (kind : ℕ) (content : List ℕ) → length (spanBytes name kind content) ≡ offsetFor name + length content
 unfolding spanBytes
 length-span name kind content = simp (length-append, length-header, length-field) (omega arith)
-
--- The component that is written.
-abbrev pub made : List ℕ → ℕ → List ℕ → Component
-made name kind content = record { offset = offsetFor name; len = length content; kind = kind; name = name; content = content }
 
 -- A header's fields are read as they were written, whatever follows it.
 module _ (len kind offset : ℕ) (rest : List ℕ) where

@@ -1,15 +1,16 @@
 -- The edits of a region's bytes r at the alignment a (document 01, "Edits", refusals 10 to 17): what each answers, and the bytes afterwards.
 -- Places are told from the region's start.
 use Prim.Native.Nat.{ℕ, _+_, _*_, _-_, _/_, _≤_, _<_}
+use mathlib.Core.Path.{_≡_}
 use mathlib.Core.Logic.{_⊎_}
 use mathlib.Core.List.{List, [], _∷_, _++_, List·Memᴰ}
-use mathlib.Core.Bool.{Bool, cond, not, _&&_}
+use mathlib.Core.Bool.{Bool, true, false, cond, not, _&&_}
 use mathlib.Core.Option.{Option, some, none}
 use lib.ListN.{length, getD, replicate}
 use lib.Dec.{ltb, leb, eqb}
 use Rattle.number.specs.Number.{beBytes}
 use Rattle.number.specs.Bytes.{splice}
-use Rattle.component.specs.Component.{magic}
+use Rattle.component.specs.Component.{Component, magic}
 use Rattle.component.specs.Names.{nameFits}
 use Rattle.number.specs.Lists.{any, keep}
 use Rattle.walk.specs.Walk.{Entry, end, buried, next, plainListing}
@@ -168,10 +169,31 @@ instead t (u ∷ us) = cond (eqb (u .place) (t .place)) t u ∷ instead t us
 abbrev pub without : ℕ → List Entry → List Entry
 without p l = keep (λ u. not (eqb (u .place) p)) l
 
--- For what is promised: n bytes from q on lie in the region and in no component's span; and the numbers of s are bytes.
+-- For what is promised.
 
+-- The component that is written.
+abbrev pub made : List ℕ → ℕ → List ℕ → Component
+made name kind content = record { offset = offsetFor name; len = length content; kind = kind; name = name; content = content }
+
+-- What an add needs before 16, and before it looks for room.
+
+pub record Open (most : ℕ) (name : List ℕ) (l : List Entry) : Type 0 where
+  pub named : nameFits name ≡ true
+  pub unused : any (bears name) l ≡ false
+  pub few : length l < most
+
+pub record Addable (most a : ℕ) (name s : List ℕ) (l : List Entry) : Type 0 where
+  pub free : Open most name l
+  pub clean : buries a s ≡ false
+
+-- A run of the list holds n bytes from q on.
+abbrev pub HeldAt : ℕ → List Run → ℕ → Type 0
+HeldAt n l q = (n ≤ 0xFFFFFFFF) × (x : Run) × List·Memᴰ x l × (x .from ≤ q) × (q + n ≤ x .to)
+
+-- n bytes from q on lie in the region and in no component's span.
 abbrev pub Free : List ℕ → ℕ → ℕ → ℕ → Type 0
 Free r a q n = (q + n ≤ length r) × ((d : Entry) → List·Memᴰ d (plainListing r a) → (end d ≤ q) ⊎ (q + n ≤ d .place))
 
+-- The numbers of s are bytes.
 abbrev pub Bytes : List ℕ → Type 0
 Bytes s = (i : ℕ) → getD s i 0 < 256

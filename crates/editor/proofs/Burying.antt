@@ -12,8 +12,7 @@ use Rattle.number.specs.Number.{beBytes}
 use Rattle.number.proofs.SameBytes.{eq-refl}
 use Rattle.component.specs.Component.{magic, startsWithMagic}
 use Rattle.number.specs.Lists.{any}
-use Rattle.walk.specs.Walk.{placesBelow, places, carries, nextMagic, buried}
-use Rattle.walk.specs.Walk.{Place}
+use Rattle.walk.specs.Walk.{placesBelow, places, carries, nextMagic, buried, Place}
 use Rattle.walk.proofs.Places.{no-places, below-ge, below-lt, below-unique}
 use Rattle.walk.proofs.Picks.{carries-fits, buried-of}
 use Rattle.walk.proofs.Hunting.{next-end, next-here, next-not, by-places, next-carries, carries-end}

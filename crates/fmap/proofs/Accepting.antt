@@ -15,18 +15,10 @@ use Rattle.area.specs.declared.Area.{Area}
 use Rattle.area.specs.Names.{nameFits}
 use Rattle.area.specs.Area.{unused, sameName, extentFits, cross, holdsMap, areaTests}
 use Rattle.fmap.specs.Signatures.{signatures, firstOr}
-use Rattle.fmap.specs.Fmap.{nareas, mapEnd, areasOf, most, signatureTests, headerTests, turnTests, wholeTests, testsAt, tests, mapOf, refused, answer, fmapBy, fmap}
+use Rattle.fmap.specs.Fmap.{placeOf, areaOf, nareas, mapEnd, areasOf, most, signatureTests, headerTests, turnTests, wholeTests, testsAt, tests, mapOf, refused, answer, fmapBy, fmap}
 use Rattle.fmap.specs.declared.Map.{Map}
 use Rattle.fmap.proofs.Counting.{areas-length}
 use Rattle.fmap.proofs.Reading.{not-refused}
-
--- The place of the map: that of the first signature.
-abbrev pub placeOf : List ℕ → ℕ
-placeOf i = firstOr 0 (signatures i)
-
--- The k-th area of a map, counted from 0.
-abbrev pub areaOf : Map → ℕ → Area
-areaOf m k = getD (m .areas) k unused
 
 -- What is answered by a number, which is 0 for a map that is read.
 

@@ -10,15 +10,15 @@ use lib.ListN.{length, take, drop}
 use Rattle.number.proofs.SameBytes.{eq-true, eq-refl}
 use Rattle.number.proofs.Tested.{any-some, two-none}
 use Rattle.terms.specs.Refusals.{firstFailed}
-use Rattle.area.specs.Names.{nameAt}
-use Rattle.area.specs.Area.{unused, sameName, cross, holdsMap}
-use Rattle.area.proofs.Facts.{Inside, Fit, ApartOrNested, Own, extent, fit, turned, uncrossed, own, differing}
+use Rattle.area.specs.Names.{nameAt, Fit}
+use Rattle.area.specs.Area.{unused, sameName, cross, holdsMap, Inside, ApartOrNested, Own}
+use Rattle.area.proofs.Facts.{extent, fit, turned, uncrossed, own, differing}
 use Rattle.fmap.specs.Signatures.{signature, signed, signedAt, signaturesFrom, signatures}
-use Rattle.fmap.specs.Fmap.{nareas, mapEnd, tests, refused, fmapBy, fmap}
+use Rattle.fmap.specs.Fmap.{placeOf, areaOf, nareas, mapEnd, tests, refused, fmapBy, fmap}
 use Rattle.fmap.proofs.Signing.{signs-sound, signs-complete}
 use Rattle.fmap.proofs.Counting.{areas-length}
 use Rattle.fmap.proofs.Reading.{headed}
-use Rattle.fmap.proofs.Accepting.{placeOf, areaOf, areas, nth, answered, accepted, count-is, long, area-is, area-past, each, wholes}
+use Rattle.fmap.proofs.Accepting.{areas, nth, answered, accepted, count-is, long, area-is, area-past, each, wholes}
 
 -- A refusal has its number, and is zero otherwise.
 pub refusal-zero : (i : List ℕ) → ((fmap i) .number ≡ 0 → ⊥) → fmap i ≡ refused ((fmap i) .number)

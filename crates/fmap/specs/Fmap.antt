@@ -118,3 +118,13 @@ fmapBy i ps = answer (firstFailed (tests i ps)) i (firstOr 0 ps)
 -- The flash map of an image, or the refusal.
 unfoldable pub fmap : List ℕ → Map
 fmap i = fmapBy i (signatures i)
+
+-- For what is promised.
+
+-- The place of the map: that of the first signature.
+abbrev pub placeOf : List ℕ → ℕ
+placeOf i = firstOr 0 (signatures i)
+
+-- The k-th area of a map, counted from 0.
+abbrev pub areaOf : Map → ℕ → Area
+areaOf m k = getD (m .areas) k unused

@@ -5,15 +5,16 @@ use mathlib.Core.Bool.{Bool, true, false, cond}
 use mathlib.Core.List.{List}
 use lib.Dec.{eqb}
 use borrow.Author.Tests.{eqb-true, eqb-false}
+use Rattle.number.specs.Bytes.{partOf}
 use Rattle.terms.specs.Terms.{refusedBy}
 use Rattle.terms.specs.declared.Refusal.{Refusal}
 use Rattle.terms.specs.declared.Region.{Region}
 use Rattle.walk.specs.declared.Taken.{Taken}
-use Rattle.region.specs.Region.{findIn}
+use Rattle.region.specs.Region.{findIn, contentIn}
 use Rattle.region.specs.declared.Found.{Found}
 use Rattle.region.specs.declared.Found.the-variants.{At, Refused}
-use Rattle.load.specs.Fits.{planFor}
-use Rattle.load.proofs.Finding.{never-zero, refused-place}
+use Rattle.load.specs.Fits.{contentPlace, planFor}
+use Rattle.load.proofs.Finding.{Located, located, never-zero, refused-place}
 
 module _ {A : Type 0} (number : A → ℕ) (refusal : Refusal → A) (told : (r : Refusal) → number (refusal r) ≡ r .number) where
   -- By the number n of the first test that fails: the plan p where it is 0.
@@ -54,3 +55,15 @@ module _ {A : Type 0} (number : A → ℕ) (refusal : Refusal → A) (told : (r 
         go : (f : Found) → findIn true i g name ≡ f → (number (planFor f refusal plan) ≡ 0 → ⊥) → planFor f refusal plan ≡ refusal (refusedBy (number (planFor f refusal plan)))
         go (Refused r) q z = ap refusal (refused-place i g name r q ∙ ap refusedBy (sym (told r)))
         go (At t) q z = each t z
+
+-- What the lookup found, f: the plan is that of the content in the image, or the lookup's refusal.
+module _ {A : Type 0} (refusal : Refusal → A) (plan : Taken → List ℕ → A) (i : List ℕ) (g : Region) (name : List ℕ) {f : Found} (e : f ≡ findIn true i g name) where
+  module _ {t : Taken} (h : f ≡ At t) where
+    pub place : Located i (contentIn true i g name) t
+    place = located i g name t (sym e ∙ h)
+
+    pub plan-found : {p : A} → p ≡ plan t (partOf i (contentPlace t) (t .header .len)) → p ≡ planFor (findIn true i g name) refusal (λ t. plan t (contentIn true i g name))
+    plan-found q = q ∙ rw (place .content, ← e, h)
+
+  pub plan-refused : {r : Refusal} → f ≡ Refused r → {p : A} → p ≡ refusal r → p ≡ planFor (findIn true i g name) refusal (λ t. plan t (contentIn true i g name))
+  plan-refused h q = q ∙ rw (← e, h)

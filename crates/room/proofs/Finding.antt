@@ -17,9 +17,8 @@ use Rattle.walk.proofs.Stepping.{pick-fits, step-past}
 use Rattle.walk.proofs.Standing.{told-some, told-none, Stands, stands}
 use Rattle.lookup.proofs.Answers.{found-some, found-none, lookup-member}
 use Rattle.lookup.proofs.Bearers.{no-bearer}
-use Rattle.number.proofs.Tested.{none-any}
+use Rattle.number.proofs.Tested.{none-any, mem-any}
 use Rattle.strict.specs.Slots.{start}
-use Rattle.number.proofs.Tested.{mem-any}
 use Rattle.edit.specs.Edit.{holds, runs, lowest, slotOf}
 use Rattle.room.specs.Room.{run, roomFor, roomOf, spaceOf}
 use Rattle.room.specs.declared.Room.the-variants.{Within, Nowhere}

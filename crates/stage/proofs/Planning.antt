@@ -1,23 +1,16 @@
--- What is answered for a component as a stage, and for what the lookup found.
+-- What is answered for a component as a stage.
 use Prim.Native.Nat.{ℕ, _≤_, _<_}
 use mathlib.Core.Path.{_≡_, sym, _∙_}
-use mathlib.Core.Bool.{true}
 use mathlib.Core.List.{List}
 use lib.ListN.{length}
 use borrow.Author.Tests.{le-leb, lt-leb, eq-eqb, ne-eqb}
 use Rattle.terms.specs.Refusals.{firstFailed}
 use Rattle.terms.specs.Terms.{refusedBy}
 use Rattle.terms.specs.declared.Refusal.{Refusal}
-use Rattle.terms.specs.declared.Region.{Region}
 use Rattle.walk.specs.declared.Taken.{Taken}
-use Rattle.number.specs.Bytes.{partOf}
-use Rattle.region.specs.Region.{findIn, contentIn}
-use Rattle.region.specs.declared.Found.{Found}
-use Rattle.region.specs.declared.Found.the-variants.{At, Refused}
 use Rattle.load.specs.Fits.{contentPlace, loadTests}
 use Rattle.load.specs.declared.Segment.{Segment}
-use Rattle.load.proofs.Finding.{Located, located}
-use Rattle.stage.specs.Stage.{entry, binaryAt, stageTests, planOf, refusedStage, stageAnswer, stageOf, stageIn}
+use Rattle.stage.specs.Stage.{entry, binaryAt, stageTests, planOf, refusedStage, stageAnswer, stageOf}
 use Rattle.stage.specs.declared.StagePlan.{StagePlan}
 
 -- A stage, by its type k.
@@ -49,19 +42,3 @@ pub stage-by : (t : Taken) {s : List ℕ} {at : ℕ} {p : StagePlan} (u : List �
     → p ≡ stageAnswer (firstFailed (stageTests (t .header .kind) s at)) s at → p ≡ stageOf t u
 unfolding stageOf
 stage-by t u e f g = g ∙ rw (e, f)
-
--- What the lookup found.
-
-module _ (i : List ℕ) (g : Region) (name : List ℕ) {f : Found} (e : f ≡ findIn true i g name) where
-  module _ {t : Taken} (h : f ≡ At t) where
-    pub place : Located i (contentIn true i g name) t
-    place = located i g name t (sym e ∙ h)
-
-    pub stage-found : {p : StagePlan} → p ≡ stageOf t (partOf i (contentPlace t) (t .header .len)) → p ≡ stageIn i g name
-    unfolding stageIn
-    stage-found q = q ∙ rw (place .content, ← e, h)
-
-  module _ {r : Refusal} (h : f ≡ Refused r) where
-    pub stage-refused : {p : StagePlan} → p ≡ refusedStage r → p ≡ stageIn i g name
-    unfolding stageIn
-    stage-refused q = q ∙ rw (← e, h)

@@ -14,7 +14,7 @@ use Rattle.terms.specs.Terms.{bytesOf}
 use Rattle.master.specs.Master.{headerAt, addressFits, bootblockFits, alignFits, offsetFits, tests, refusal, master}
 use Rattle.lookup.specs.Lookup.{bears, foremost, only}
 use Rattle.region.specs.Region.{Walked, ended, went, stepFits, stepBy, fromPlace}
-use Rattle.cbfs.specs.Cbfs.{nameAt, plainStep, guardedStep}
+use Rattle.reading.specs.Reading.{nameAt, plainStep, guardedStep}
 use Rattle.strict.specs.Strict.{takes, stray, strays, toldApart, decide, verdict}
 use Rattle.strict.specs.Slots.{start}
 use Rattle.edit.specs.Edit.{fieldSize, headerBytes, fieldBytes, spanBytes, buries, runs, lowest, slotOf, filled, adding, renewing, carriedOut, add, replace}

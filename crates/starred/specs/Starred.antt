@@ -21,7 +21,9 @@ use Rattle.region.specs.declared.Found.the-variants.{At}
 use Rattle.region.specs.declared.Found.the-variants.{Refused as NotFound}
 use Rattle.editor.specs.declared.Edited.the-variants.{Done}
 use Rattle.editor.specs.declared.Edited.the-variants.{Refused as NotDone}
-use Rattle.cbfs.specs.Cbfs.{plainStep, guardedStep, plainFind, guardedFind, nameAt, added, replaced, stage, payload}
+use Rattle.reading.specs.Reading.{plainStep, guardedStep, plainFind, guardedFind, nameAt}
+use Rattle.editing.specs.Editing.{added, replaced}
+use Rattle.planning.specs.Planning.{stage, payload}
 
 -- An image of 4096 bytes: the region's bytes r, 0xFF after them, the master header with bootblocksize, align and offset, and P, which is 0xFFFFFF00 + p.
 unfoldable pub image : List ℕ → ℕ → ℕ → ℕ → ℕ → List ℕ

@@ -13,18 +13,17 @@ use lib.Dec.{eqb}
 use borrow.Author.Tests.{eqb-true, eq-eqb, not-false}
 use Rattle.component.specs.Component.{span}
 use Rattle.number.specs.Lists.{keep}
-use Rattle.walk.specs.Walk.{Entry, end, allPlaces, carries, plain, guarded, plainListing, guardedListing}
+use Rattle.walk.specs.Walk.{Entry, end, allPlaces, carries, plain, guarded, plainListing, guardedListing, Place}
 use Rattle.lookup.specs.Lookup.{only, bears, plainLookup, guardedLookup}
-use Rattle.walk.specs.Walk.{Place}
 use Rattle.walk.proofs.Steps.{Exclusive, listing-all, mem-listing, listing-apart, rest-none}
 use Rattle.walk.proofs.Stepping.{pick-fits, step-no-places}
 use Rattle.walk.proofs.Picks.{plain-none, carries-fits, buried-of, guarded-plain, guarded-of, guarded-none, guarded-exclusive, guarded-context-free}
-use Rattle.strict.specs.Strict.{limit, takes, stray, strays, toldApart, Accepted}
+use Rattle.strict.specs.Strict.{limit, takes, stray, strays, toldApart, Accepted, Sound}
 use Rattle.strict.specs.Slots.{hit, spoiled, Spoilt, Kept}
 use Rattle.number.proofs.Tested.{any-true, mem-any, keep-empty, keep-none, keep-comm}
 use Rattle.strict.proofs.Picked.{listed-place, place-listed, picked-same}
 use Rattle.strict.proofs.Bearing.{only-one, lone, first-only}
-use Rattle.strict.proofs.Frames.{Sound, Frame, guarded-mem, same-rest, same-listed}
+use Rattle.strict.proofs.Frames.{Frame, guarded-mem, same-rest, same-listed}
 use Rattle.strict.proofs.Slots.{slot-frame, spoiled-inside}
 
 pub mem-takes : (l : List Entry) (t : Entry) → List·Memᴰ t l → takes l (t .place) ≡ true

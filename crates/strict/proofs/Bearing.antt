@@ -8,11 +8,9 @@ use borrow.Author.Tests.{not-true}
 use Rattle.number.specs.Lists.{any, keep}
 use Rattle.walk.specs.Walk.{Entry}
 use Rattle.lookup.specs.Lookup.{refused, gives, foremost, only, bears}
-use Rattle.number.proofs.Tested.{any-false}
-use Rattle.number.proofs.Tested.{mem-keep}
+use Rattle.number.proofs.Tested.{any-false, mem-keep, both-true, keep-none}
 use Rattle.lookup.proofs.Bearers.{bears-name, name-bears}
 use Rattle.strict.specs.Strict.{toldApart}
-use Rattle.number.proofs.Tested.{both-true, keep-none}
 
 -- A list of which some are spoiled, and one bearer is not.
 module _ (bearing spoiled : Entry → Bool) where

@@ -11,14 +11,10 @@ use borrow.Author.Tests.{not-true}
 use Rattle.component.specs.Component.{Component, span}
 use Rattle.component.proofs.Judging.{judge-local, window}
 use Rattle.number.specs.Lists.{keep}
-use Rattle.walk.specs.Walk.{Entry, allPlaces, carries, buried, plain, guarded, guardedListing}
-use Rattle.walk.specs.Walk.{Place}
+use Rattle.walk.specs.Walk.{Entry, allPlaces, carries, buried, plain, guarded, guardedListing, Place}
 use Rattle.walk.proofs.Picks.{carries-local, buried-false, buried-of, guarded-plain, guarded-of, guarded-none, guarded-fits, guarded-context-free}
 use Rattle.strict.proofs.Picked.{mem-picked, picked-mem, listed-place, place-listed, picked-keep}
-
--- Every magic at a place is a component's that the guarded walk may take.
-abbrev pub Sound : List ℕ → ℕ → Type 0
-Sound r a = (p : ℕ) → Place a p → carries r p ≡ true → (c : Component) × (guarded r a p ≡ some c)
+use Rattle.strict.specs.Strict.{Sound}
 
 -- What the guarded listing has: what may be taken at a place, and all of it.
 

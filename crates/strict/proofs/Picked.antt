@@ -10,8 +10,7 @@ use mathlib.Core.Option.{Option, some, none}
 use lib.ListN.{length}
 use Rattle.component.specs.Component.{Component}
 use Rattle.number.specs.Lists.{keep}
-use Rattle.walk.specs.Walk.{Entry, Pick, placesBelow, allPlaces, prepend, picked}
-use Rattle.walk.specs.Walk.{Place}
+use Rattle.walk.specs.Walk.{Entry, Pick, placesBelow, allPlaces, prepend, picked, Place}
 use Rattle.walk.proofs.Places.{below-ge, below-lt, mem-places, places-mem}
 
 pub mem-picked : (pick : Pick) (ps : List ℕ) (t : Entry) → List·Memᴰ t (picked pick ps) → List·Memᴰ (t .place) ps × (pick (t .place) ≡ some (t .component))

@@ -9,24 +9,15 @@ use mathlib.Core.Bool.{Bool, true, false, cond, not, _&&_, _||_, true≢false, f
 use lib.ListN.{length}
 use borrow.Author.Tests.{not-true}
 use Rattle.number.specs.Lists.{any, keep}
-use Rattle.walk.specs.Walk.{Entry, placesBelow, places, allPlaces, carries, plainListing}
+use Rattle.walk.specs.Walk.{Entry, placesBelow, places, allPlaces, carries, plainListing, Place}
 use Rattle.lookup.specs.Lookup.{bears}
-use Rattle.walk.specs.Walk.{Place}
 use Rattle.walk.proofs.Places.{no-places, mem-places}
 use Rattle.lookup.proofs.Bearers.{bears-name, name-bears}
 use Rattle.walk.proofs.Picks.{carries-fits}
-use Rattle.strict.specs.Strict.{takes, stray, strays, toldApart}
+use Rattle.strict.specs.Strict.{takes, stray, strays, toldApart, TwoAlike, LowestStray}
 use Rattle.number.proofs.Tested.{both-true, mem-any, keep-empty}
 use Rattle.strict.proofs.Picked.{listed-place, place-listed}
 use Rattle.strict.proofs.Strays.{stray-true}
-
--- p is the lowest place with the magic that the plain walk does not take. An alignment of 0 has no places.
-pub record LowestStray (r : List ℕ) (a : ℕ) (p : ℕ) : Type 0 where
-  pub pos : 0 < a
-  pub at : Place a p
-  pub magic : carries r p ≡ true
-  pub untaken : takes (plainListing r a) p ≡ false
-  pub least : (q : ℕ) → Place a q → carries r q ≡ true → takes (plainListing r a) q ≡ false → p ≤ q
 
 -- The first that is kept of a row of places.
 kept-first : (f : ℕ → Bool) (a k n : ℕ) (p : ℕ) (ps : List ℕ) → keep f (places a k n) ≡ p ∷ ps
@@ -84,16 +75,6 @@ module _ (r : List ℕ) (a : ℕ) where
           let t = first-lowest q qs e in
           let h : q ≡ p = omega (arith, t .least p (s .at) (s .magic) (s .untaken), s .least q (t .at) (t .magic) (t .untaken)) in
           (qs, rw h at e)
-
--- Two components of the list bear one name.
-pub record TwoAlike (l : List Entry) : Type 0 where
-  pub before : List Entry
-  pub one : Entry
-  pub between : List Entry
-  pub other : Entry
-  pub after : List Entry
-  pub split : l ≡ before ++ (one ∷ (between ++ (other ∷ after)))
-  pub same : one .component .name ≡ other .component .name
 
 any-split : (f : Entry → Bool) (l : List Entry) → any f l ≡ true → (before : List Entry) × (x : Entry) × (after : List Entry) × (l ≡ before ++ (x ∷ after)) × (f x ≡ true)
 unfolding any

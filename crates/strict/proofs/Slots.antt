@@ -11,8 +11,7 @@ use lib.ListN.{length}
 use lib.Dec.{leb, ltb}
 use borrow.Author.Tests.{le-leb, lt-leb, lt-ltb, le-ltb}
 use Rattle.component.specs.Component.{Component, span}
-use Rattle.walk.specs.Walk.{Entry, Pick, end, placesBelow, places, guarded, guardedListing, picked, prepend}
-use Rattle.walk.specs.Walk.{Place}
+use Rattle.walk.specs.Walk.{Entry, Pick, end, placesBelow, places, guarded, guardedListing, picked, prepend, Place}
 use Rattle.walk.proofs.Places.{mem-places}
 use Rattle.walk.proofs.Picks.{buried-false, guarded-plain, guarded-carries, guarded-fits, guarded-context-free}
 use Rattle.strict.specs.Slots.{start, within, hit, Spoilt}

@@ -13,16 +13,28 @@ use lib.ListN.{length, drop}
 use borrow.Author.Tests.{eq-eqb, ne-eqb}
 use Rattle.component.specs.Component.{Component, span, judge}
 use Rattle.number.specs.Lists.{any, keep}
-use Rattle.walk.specs.Walk.{Entry, placesBelow, places, carries, nextMagic, plain, step, onward, listingFrom}
-use Rattle.walk.specs.Walk.{Place}
+use Rattle.walk.specs.Walk.{Entry, placesBelow, places, carries, nextMagic, plain, step, onward, listingFrom, Place}
 use Rattle.walk.proofs.Places.{no-places, below-next, below-end, below-unique, mem-places}
 use Rattle.walk.proofs.Hunting.{next-end, next-here, next-not, next-above, next-carries, by-places, over-quiet, quiet-all}
 use Rattle.walk.proofs.Steps.{Stop, Listed, mem-steps, onward-stop, onward-far, rest-none, rest-some, step-here, step-next}
 use Rattle.walk.proofs.Stepping.{hunted, pick-fits, step-no-places, step-past}
 use Rattle.walk.proofs.Picks.{plain-fits}
-use Rattle.strict.specs.Strict.{takes, stray, strays, straysFrom, lowest, firstStray}
+use Rattle.strict.specs.Strict.{takes, stray, strays}
 use Rattle.number.proofs.Tested.{keep-same}
 use Rattle.strict.proofs.Accepting.{takes-mem}
+
+-- The strays from the number n on: what the plain walk begun there does not take of the places from n on.
+unfoldable pub straysFrom : List ℕ → ℕ → ℕ → List ℕ
+straysFrom r a n = keep (stray r (listingFrom (plain r) r a n)) (places a (placesBelow a (length r - n)) n)
+
+-- The first of a list, if it has one.
+unfoldable pub lowest : List ℕ → Option ℕ
+lowest [] = none
+lowest (p ∷ ps) = some p
+
+-- The lowest stray from n on, if there is one.
+abbrev pub firstStray : List ℕ → ℕ → ℕ → Option ℕ
+firstStray r a n = lowest (straysFrom r a n)
 
 pub strays-from : (r : List ℕ) (a : ℕ) → strays r a ≡ straysFrom r a 0
 unfolding strays straysFrom

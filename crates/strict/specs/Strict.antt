@@ -1,13 +1,14 @@
 -- The strict check over a region's bytes r at the alignment a (document 01, "Components and the two walks"; refusals 12, 13, 11).
-use Prim.Native.Nat.{ℕ, _-_, _≤_}
+use Prim.Native.Nat.{ℕ, _-_, _≤_, _<_}
 use mathlib.Core.Path.{_≡_}
-use mathlib.Core.List.{List, [], _∷_, map}
-use mathlib.Core.Bool.{Bool, true, cond, not, _&&_}
-use mathlib.Core.Option.{Option, some, none}
+use mathlib.Core.List.{List, [], _∷_, _++_, map}
+use mathlib.Core.Bool.{Bool, true, false, cond, not, _&&_}
+use mathlib.Core.Option.{some}
 use lib.ListN.{length}
 use lib.Dec.{ltb, eqb}
 use Rattle.number.specs.Lists.{any, keep}
-use Rattle.walk.specs.Walk.{Entry, placesBelow, places, allPlaces, carries, plain, listingFrom, plainListing}
+use Rattle.component.specs.Component.{Component}
+use Rattle.walk.specs.Walk.{Entry, allPlaces, carries, guarded, plainListing, Place}
 use Rattle.lookup.specs.Lookup.{bears}
 
 -- How many components a region may have.
@@ -57,15 +58,26 @@ decide most [] l = cond (ltb most (length l)) (refused 13 0) (cond (toldApart l)
 unfoldable pub verdict : ℕ → List ℕ → ℕ → Verdict
 verdict most r a = decide most (strays r a) (plainListing r a)
 
--- The strays from the number n on: what the plain walk begun there does not take of the places from n on.
-unfoldable pub straysFrom : List ℕ → ℕ → ℕ → List ℕ
-straysFrom r a n = keep (stray r (listingFrom (plain r) r a n)) (places a (placesBelow a (length r - n)) n)
+-- For what is promised.
 
--- The first of a list, if it has one.
-unfoldable pub lowest : List ℕ → Option ℕ
-lowest [] = none
-lowest (p ∷ ps) = some p
+-- p is the lowest place with the magic that the plain walk does not take. An alignment of 0 has no places.
+pub record LowestStray (r : List ℕ) (a : ℕ) (p : ℕ) : Type 0 where
+  pub pos : 0 < a
+  pub at : Place a p
+  pub magic : carries r p ≡ true
+  pub untaken : takes (plainListing r a) p ≡ false
+  pub least : (q : ℕ) → Place a q → carries r q ≡ true → takes (plainListing r a) q ≡ false → p ≤ q
 
--- The lowest stray from n on, if there is one.
-abbrev pub firstStray : List ℕ → ℕ → ℕ → Option ℕ
-firstStray r a n = lowest (straysFrom r a n)
+-- Two components of the list bear one name.
+pub record TwoAlike (l : List Entry) : Type 0 where
+  pub before : List Entry
+  pub one : Entry
+  pub between : List Entry
+  pub other : Entry
+  pub after : List Entry
+  pub split : l ≡ before ++ (one ∷ (between ++ (other ∷ after)))
+  pub same : one .component .name ≡ other .component .name
+
+-- Every magic at a place is a component's that the guarded walk may take.
+abbrev pub Sound : List ℕ → ℕ → Type 0
+Sound r a = (p : ℕ) → Place a p → carries r p ≡ true → (c : Component) × (guarded r a p ≡ some c)

@@ -9,8 +9,7 @@ use mathlib.Core.Bool.{Bool}
 use mathlib.Core.Option.{some}
 use lib.ListN.{length, drop}
 use Rattle.component.specs.Component.{judge}
-use Rattle.walk.specs.Walk.{Entry, end, onward, next, pickOf, listing}
-use Rattle.walk.specs.Walk.{Place}
+use Rattle.walk.specs.Walk.{Entry, end, onward, next, pickOf, listing, Place}
 use Rattle.walk.proofs.Steps.{Listed, mem-listing, rest-none}
 use Rattle.walk.proofs.Stepping.{pick-fits, step-no-places}
 use Rattle.walk.proofs.Standing.{pick-judged}

@@ -10,8 +10,7 @@ use lib.ListN.{length, getD, take, drop, length-take, length-drop}
 use Rattle.component.specs.Component.{Component, span, judge, startsWithMagic, magic}
 use Rattle.component.proofs.Judging.{judge-fits, judge-magic, judge-quiet, window}
 use Rattle.number.proofs.SameBytes.{eq-true}
-use Rattle.walk.specs.Walk.{placesBelow, places, carries, buried, plain, unless, guarded, listing, picked, allPlaces}
-use Rattle.walk.specs.Walk.{Place}
+use Rattle.walk.specs.Walk.{placesBelow, places, carries, buried, plain, unless, guarded, listing, picked, allPlaces, Place}
 use Rattle.walk.proofs.Places.{below-ge, below-lt, gap, mem-places, places-mem}
 use Rattle.number.proofs.Tested.{any-false, none-any}
 use Rattle.walk.proofs.Steps.{Fits, Exclusive, listing-all}

@@ -9,8 +9,7 @@ use mathlib.Core.Logic.{_⊎_, inl, inr}
 use mathlib.Core.Option.{Option, some, none, Option·some-injective, Option·none-ne-some, Option·some-ne-none}
 use lib.ListN.{length}
 use Rattle.component.specs.Component.{Component, span}
-use Rattle.walk.specs.Walk.{Entry, Pick, end, placesBelow, places, allPlaces, orElse, first, onward, step, follow, steps, listing, listingFrom, prepend, picked, allFrom}
-use Rattle.walk.specs.Walk.{Place}
+use Rattle.walk.specs.Walk.{Entry, Pick, end, placesBelow, places, allPlaces, orElse, first, onward, step, follow, steps, listing, listingFrom, prepend, picked, Place}
 use Rattle.walk.proofs.Places.{below-ge, below-lt, below-next, below-end, below-pos, gap}
 
 -- A listing ends where no component is left.
@@ -38,6 +37,10 @@ onward-stop r a b = go (decLe (placesBelow a b * a) (length r))
 pub onward-far : (r : List ℕ) (a : ℕ) → 0 < a → (b n : ℕ) → n ≤ b → n ≤ length r → n ≤ onward r a b
 unfolding onward
 onward-far r a pos b n h k = omega (arith, below-ge a pos b)
+
+-- All that may be taken at the places from n on.
+unfoldable pub allFrom : Pick → List ℕ → ℕ → ℕ → List Entry
+allFrom pick r a n = picked pick (places a (placesBelow a (length r - n)) n)
 
 module _ (pick : Pick) (r : List ℕ) (a : ℕ) (pos : 0 < a) where
   pub allFrom-end : (n : ℕ) → length r ≤ n → allFrom pick r a n ≡ []

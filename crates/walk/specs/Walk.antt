@@ -124,10 +124,6 @@ unfoldable pub picked : Pick → List ℕ → List Entry
 picked pick [] = []
 picked pick (p ∷ ps) = let rest = picked pick ps in prepend p (pick p) rest
 
--- All that may be taken at the places from n on.
-unfoldable pub allFrom : Pick → List ℕ → ℕ → ℕ → List Entry
-allFrom pick r a n = picked pick (places a (placesBelow a (length r - n)) n)
-
 -- What a step answers.
 
 abbrev pub takenOf : List ℕ → ℕ → Entry → Taken

@@ -1,5 +1,6 @@
 use mathlib.Core.Path.{refl}
-use Rattle.payload.proofs.Planning.{place, payload-found, payload-refused}
+use Rattle.load.proofs.Answering.{place, plan-found, plan-refused}
+use Rattle.payload.specs.Payload.{refusedPayload, payloadOf, payloadIn}
 use borrow.Author.Needs.{needs}
 use Rattle.payload.proofs.plan.Statement.{statement}
 use Rattle.payload.proofs.plan.Tie as tie
@@ -14,7 +15,7 @@ payload-of-requires : tie.Need-payload-of-requires
 payload-of-requires c κs =
     let f = c .before .before .before in
     let a = f .before .before .before .args in
-    place (a .image .now) (a .region) (a .name .now) (f .find-in .ensures .0) (c .before .f .given .1) .within
+    place refusedPayload payloadOf (a .image .now) (a .region) (a .name .now) (f .find-in .ensures .0) (c .before .f .given .1) .within
 
 enum-known-f-2 : tie.Need-enum-known-f-2
 enum-known-f-2 c = search needs
@@ -23,18 +24,20 @@ refused-payload-requires : tie.Need-refused-payload-requires
 refused-payload-requires c κs = search needs
 
 returns : tie.Need-returns
+unfolding payloadIn
 returns c =
     let k = c .before .before in
     let f = k .before .before in
     let a = f .before .before .before .args in
-    (payload-found (a .image .now) (a .region) (a .name .now) (f .find-in .ensures .0) (k .f .given .1) (c .payload-of .ensures), (refl, refl))
+    (plan-found refusedPayload payloadOf (a .image .now) (a .region) (a .name .now) (f .find-in .ensures .0) (k .f .given .1) (c .payload-of .ensures), (refl, refl))
 
 returns-2 : tie.Need-returns-2
+unfolding payloadIn
 returns-2 c =
     let k = c .before .before in
     let f = k .before .before in
     let a = f .before .before .before .args in
-    (payload-refused (a .image .now) (a .region) (a .name .now) (f .find-in .ensures .0) (k .f2 .given .1) (c .refused-payload .ensures), (refl, refl))
+    (plan-refused refusedPayload payloadOf (a .image .now) (a .region) (a .name .now) (f .find-in .ensures .0) (k .f2 .given .1) (c .refused-payload .ensures), (refl, refl))
 
 pub plan-spec : {M : Type 1} → statement M
 plan-spec =
