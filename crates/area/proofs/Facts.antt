@@ -7,10 +7,10 @@ use mathlib.Core.List.{List, [], _∷_}
 use lib.ListN.{length, getD}
 use lib.Dec.{leb}
 use borrow.Author.Tests.{leb-true}
-use Rattle.number.specs.Tests.{every, all, isPrintable}
+use Rattle.number.specs.Tests.{every, all}
 use Rattle.number.proofs.Passing.{passes}
 use Rattle.number.proofs.SameBytes.{eq-true, eq-refl}
-use Rattle.area.specs.Names.{Fit, printed, nameTests, nameFits, nameOf, nameAt}
+use Rattle.area.specs.Names.{isPrintable, Fit, printed, nameTests, nameFits, nameOf, nameAt}
 use Rattle.area.specs.Area.{Inside, Apart, Holds, ApartOrNested, Own, endOf, bears, sameName, extentFits, disjoint, holds, cross, ownTests, holdsMap}
 use Rattle.area.specs.declared.Area.{Area}
 

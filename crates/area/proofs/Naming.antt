@@ -11,11 +11,10 @@ use lib.ListN.{length, take, drop, getD, drop-of-length-le, length-drop, List·g
 use lib.Seq.{drop-cons}
 use lib.Dec.{leb}
 use borrow.Author.Tests.{le-leb, lt-leb, leb-true, eq-eqb, ne-eqb}
-use Rattle.number.specs.Tests.{isPrintable}
 use Rattle.number.specs.Bytes.{partOf}
 use Rattle.number.proofs.Passing.{fails, passes}
 use Rattle.number.proofs.Splice.{part-in}
-use Rattle.area.specs.Names.{printed, nameTests, nameFits, nameOf, nameAt}
+use Rattle.area.specs.Names.{isPrintable, printed, nameTests, nameFits, nameOf, nameAt}
 
 -- printed, over the indices
 

@@ -5,7 +5,11 @@ use mathlib.Core.List.{List, [], _∷_}
 use mathlib.Core.Bool.{Bool, true, cond}
 use lib.ListN.{length, drop, getD}
 use lib.Dec.{leb, eqb}
-use Rattle.number.specs.Tests.{every, all, isPrintable}
+use Rattle.number.specs.Tests.{every, all}
+
+-- A byte of a name.
+abbrev pub isPrintable : ℕ → Bool
+isPrintable b = every (leb 0x21 b ∷ leb b 0x7E ∷ [])
 
 -- The bytes of 0x21 to 0x7E at the start.
 unfoldable pub printed : List ℕ → List ℕ

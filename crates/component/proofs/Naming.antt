@@ -10,9 +10,9 @@ use lib.ListN.{length, take, drop, getD, drop-of-length-le}
 use lib.Seq.{drop-cons}
 use lib.Dec.{eqb}
 use borrow.Author.Tests.{eq-eqb, ne-eqb, le-leb, leb-true}
-use Rattle.number.specs.Tests.{all, isPrintable}
+use Rattle.number.specs.Tests.{all}
 use Rattle.number.proofs.Passing.{fails, passes, every-last}
-use Rattle.component.specs.Names.{nameTests, nameFits, beforeZero, fieldTests, fieldFits, nameLength}
+use Rattle.component.specs.Names.{isPrintable, nameTests, nameFits, beforeZero, fieldTests, fieldFits, nameLength}
 
 -- beforeZero
 

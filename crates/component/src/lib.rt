@@ -3,8 +3,8 @@
 ghost use mathlib.Core.Path.{_≡_};
 ghost use mathlib.Core.Bool.{false};
 ghost use lib.ListN.{length};
-ghost use Rattle.number.specs.Tests.{all, isPrintable};
-ghost use Rattle.component.specs.Names.{isZero, nameFits, beforeZero, nameLength};
+ghost use Rattle.number.specs.Tests.{all};
+ghost use Rattle.component.specs.Names.{isPrintable, isZero, nameFits, beforeZero, nameLength};
 ghost use Rattle.component.specs.Component.{startsWithMagic, fields as fieldsOf, judge as judgeOf, judged, nameOf, contentOf};
 ghost use Rattle.component.specs.declared.Judged.the-variants.{IllFormed};
 

@@ -2,7 +2,6 @@
 use Prim.Native.Nat.{ℕ}
 use mathlib.Core.List.{List, [], _∷_}
 use mathlib.Core.Bool.{Bool, true, false, cond}
-use lib.Dec.{leb}
 
 -- Each of the tests is passed.
 abbrev pub every : List Bool → Bool
@@ -14,7 +13,3 @@ every (false ∷ ts) = false
 unfoldable pub all : (ℕ → Bool) → List ℕ → Bool
 all t [] = true
 all t (b ∷ bs) = cond (t b) (all t bs) false
-
--- A byte of 0x21 to 0x7E, as names have them.
-abbrev pub isPrintable : ℕ → Bool
-isPrintable b = every (leb 0x21 b ∷ leb b 0x7E ∷ [])

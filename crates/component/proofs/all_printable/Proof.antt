@@ -3,7 +3,8 @@ use mathlib.Core.Path.{_≡_, sym, refl, _∙_}
 use native.Mathlib.Omega.{arith}
 use lib.ListN.{length, drop}
 use borrow.Author.Tests.{le-leb, lt-leb}
-use Rattle.number.specs.Tests.{all, isPrintable}
+use Rattle.component.specs.Names.{isPrintable}
+use Rattle.number.specs.Tests.{all}
 use Rattle.number.proofs.Passing.{all-here, all-not, all-done}
 use borrow.Author.Needs.{needs}
 use Rattle.component.proofs.all_printable.Statement.{statement}
