@@ -48,7 +48,7 @@ fn count_steps(guarded: bool, image: &[u8], region: Region) -> u64
 fn count(guarded: bool, image: &[u8]) -> u64
     ensures { λ n. ⌜ n ≡ countOf guarded (now (image .entry)) ⌝ }
 {
-    let m = reading::region(image);
+    let m = cbfs::region(image);
     match m {
         Master::Read(g) => count_steps(guarded, image, g),
         Master::Refused(r) => refusal_number(r),
@@ -78,9 +78,9 @@ fn find(guarded: bool, image: &[u8], name: &[u8]) -> Found
     ensures { λ f. ⌜ f ≡ findOf guarded (now (image .entry)) (now (name .entry)) ⌝ }
 {
     if guarded {
-        return reading::guarded_find(image, name);
+        return cbfs::guarded_find(image, name);
     }
-    reading::plain_find(image, name)
+    cbfs::plain_find(image, name)
 }
 
 // The place that a lookup finds, or its refusal.
@@ -118,7 +118,7 @@ pub extern "C" fn bench_strict_count(image: &[u8]) -> u64
     ensures { λ n. ⌜ n ≡ strictCount (now (image .entry)) ⌝ }
     ensures kept { λ _. ⌜ now (image .exit) ≡ now (image .entry) ⌝ }
 {
-    let d = reading::strict_check(image);
+    let d = cbfs::strict_check(image);
     if d.number == 0 {
         return d.count as u64;
     }
