@@ -9,10 +9,10 @@ use Rattle.number.specs.Bytes.{eqBytes}
 use Rattle.number.specs.Tests.{all}
 use Rattle.component.specs.Names.{beforeZero, nameTests, nameFits, fieldTests, fieldFits}
 use Rattle.component.specs.Component.{magic, startsWithMagic, componentOf, headerTests, wellFormed, fields, judge}
-use Rattle.number.specs.Lists.{any, keep}
+use Rattle.number.specs.Lists.{any, keep, noTwo}
 use Rattle.walk.specs.Walk.{Entry, placesBelow, places, carries, buried, plain, orElse, first, onward, step, follow, steps, listingFrom, plainListing}
 use Rattle.lookup.specs.Lookup.{bears}
-use Rattle.strict.specs.Strict.{takes, stray, strays, toldApart, Accepted}
+use Rattle.strict.specs.Strict.{takes, stray, strays, Accepted}
 use Rattle.strict.specs.Slots.{start}
 use Rattle.edit.specs.Edit.{fieldSize, offsetFor, headerBytes, fieldBytes, spanBytes, buries, runs, lowest, slotOf, adding, renewing, clearing, Reply, refusal, done, Outcome, carriedOut, add, replace, remove}
 use Rattle.edit.proofs.Theorems.{add-on, replace-on, remove-on}
@@ -44,19 +44,19 @@ unfoldable listA : List Entry
 listA = here 0 50 100 ∷ here 192 51 24 ∷ []
 
 listed-64 : plainListing regionA 64 ≡ listA
-unfolding any keep be beBytes eqBytes magic startsWithMagic beforeZero all nameTests nameFits fieldTests fieldFits componentOf headerTests wellFormed fields judge placesBelow places carries plain orElse first onward step follow steps listingFrom bears takes stray strays toldApart fieldSize headerBytes fieldBytes spanBytes cal regionA here listA
+unfolding any keep be beBytes eqBytes magic startsWithMagic beforeZero all nameTests nameFits fieldTests fieldFits componentOf headerTests wellFormed fields judge placesBelow places carries plain orElse first onward step follow steps listingFrom bears takes stray strays noTwo fieldSize headerBytes fieldBytes spanBytes cal regionA here listA
 listed-64 = refl
 
 accepted-64 : Accepted regionA 64
-unfolding any keep be beBytes eqBytes magic startsWithMagic beforeZero all nameTests nameFits fieldTests fieldFits componentOf headerTests wellFormed fields judge placesBelow places carries plain orElse first onward step follow steps listingFrom bears takes stray strays toldApart fieldSize headerBytes fieldBytes spanBytes cal regionA here listA
+unfolding any keep be beBytes eqBytes magic startsWithMagic beforeZero all nameTests nameFits fieldTests fieldFits componentOf headerTests wellFormed fields judge placesBelow places carries plain orElse first onward step follow steps listingFrom bears takes stray strays noTwo fieldSize headerBytes fieldBytes spanBytes cal regionA here listA
 accepted-64 = record { all-taken = refl; few = lit≤ tt; told-apart = refl }
 
 listed-16 : plainListing regionA 16 ≡ listA
-unfolding any keep be beBytes eqBytes magic startsWithMagic beforeZero all nameTests nameFits fieldTests fieldFits componentOf headerTests wellFormed fields judge placesBelow places carries plain orElse first onward step follow steps listingFrom bears takes stray strays toldApart fieldSize headerBytes fieldBytes spanBytes cal regionA here listA
+unfolding any keep be beBytes eqBytes magic startsWithMagic beforeZero all nameTests nameFits fieldTests fieldFits componentOf headerTests wellFormed fields judge placesBelow places carries plain orElse first onward step follow steps listingFrom bears takes stray strays noTwo fieldSize headerBytes fieldBytes spanBytes cal regionA here listA
 listed-16 = refl
 
 accepted-16 : Accepted regionA 16
-unfolding any keep be beBytes eqBytes magic startsWithMagic beforeZero all nameTests nameFits fieldTests fieldFits componentOf headerTests wellFormed fields judge placesBelow places carries plain orElse first onward step follow steps listingFrom bears takes stray strays toldApart fieldSize headerBytes fieldBytes spanBytes cal regionA here listA
+unfolding any keep be beBytes eqBytes magic startsWithMagic beforeZero all nameTests nameFits fieldTests fieldFits componentOf headerTests wellFormed fields judge placesBelow places carries plain orElse first onward step follow steps listingFrom bears takes stray strays noTwo fieldSize headerBytes fieldBytes spanBytes cal regionA here listA
 accepted-16 = record { all-taken = refl; few = lit≤ tt; told-apart = refl }
 
 -- An edit of bench image A's region, from its listing.

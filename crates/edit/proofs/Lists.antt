@@ -10,7 +10,7 @@ use lib.Dec.{ltb, eqb}
 use borrow.Author.Tests.{eqb-true, eq-eqb, ne-eqb, lt-ltb, le-ltb, not-true}
 use Rattle.number.specs.Bytes.{eqBytes}
 use Rattle.number.proofs.SameBytes.{eq-true, eq-refl}
-use Rattle.number.specs.Lists.{any, keep}
+use Rattle.number.specs.Lists.{any, keep, noTwo}
 use Rattle.walk.specs.Walk.{Entry}
 use Rattle.lookup.specs.Lookup.{bears}
 use Rattle.number.proofs.Tested.{any-false, none-any, or-false, mem-keep, both-true, keep-comm}
@@ -34,7 +34,7 @@ module _ {ℓ} {A : Type ℓ} where
       go false ih = omega arith
 
 pub apart-keep : (f : Entry → Bool) (l : List Entry) → toldApart l ≡ true → toldApart (keep f l) ≡ true
-unfolding keep toldApart
+unfolding keep noTwo
 apart-keep f [] e = refl
 apart-keep f (x ∷ xs) e = go (f x) (apart-keep f xs (s .1))
   where
@@ -141,7 +141,7 @@ bears-not n t h = go (eqBytes (t .component .name) n) refl
     go true q = absurd (h (sym (eq-true (t .component .name) n q)))
 
 pub apart-put : (t : Entry) (l : List Entry) → any (bears (t .component .name)) l ≡ false → toldApart l ≡ true → toldApart (putIn t l) ≡ true
-unfolding putIn toldApart any
+unfolding putIn noTwo any
 apart-put t [] p q = refl
 apart-put t (x ∷ xs) p q = go (ltb (t .place) (x .place)) (apart-put t xs (o .1) (s .1))
   where
@@ -175,7 +175,7 @@ any-instead n t [] h = refl
 any-instead n t (x ∷ xs) h = rw (chosen t x xs h, any-instead n t xs (λ u m. h u (List·Memᴰ·tail m)))
 
 pub apart-instead : (t : Entry) (l : List Entry) → SameName t l → toldApart (instead t l) ≡ toldApart l
-unfolding instead toldApart
+unfolding instead noTwo
 apart-instead t [] h = refl
 apart-instead t (x ∷ xs) h = rw (chosen t x xs h, any-instead (x .component .name) t xs (λ u m. h u (List·Memᴰ·tail m)), apart-instead t xs (λ u m. h u (List·Memᴰ·tail m)))
 

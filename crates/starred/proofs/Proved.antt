@@ -7,7 +7,7 @@ use Rattle.number.specs.Bytes.{partOf, eqBytes, splice}
 use Rattle.number.specs.Tests.{all}
 use Rattle.component.specs.Names.{nameTests, nameFits, beforeZero, fieldTests, fieldFits}
 use Rattle.component.specs.Component.{magic, startsWithMagic, componentOf, headerTests, wellFormed, fields, judge}
-use Rattle.number.specs.Lists.{any, keep, padded}
+use Rattle.number.specs.Lists.{any, keep, padded, noTwo}
 use Rattle.walk.specs.Walk.{placesBelow, places, carries, buried, plain, unless, guarded, orElse, first, step, onward, follow, steps, listingFrom}
 use Rattle.terms.specs.Refusals.{lengthFits}
 use Rattle.terms.specs.Terms.{bytesOf}
@@ -15,7 +15,7 @@ use Rattle.master.specs.Master.{headerAt, addressFits, bootblockFits, alignFits
 use Rattle.lookup.specs.Lookup.{bears, foremost, only}
 use Rattle.region.specs.Region.{Walked, ended, went, stepFits, stepBy, fromPlace}
 use Rattle.reading.specs.Reading.{nameAt, plainStep, guardedStep}
-use Rattle.strict.specs.Strict.{takes, stray, strays, toldApart, decide, verdict}
+use Rattle.strict.specs.Strict.{takes, stray, strays, decide, verdict}
 use Rattle.strict.specs.Slots.{start}
 use Rattle.edit.specs.Edit.{fieldSize, headerBytes, fieldBytes, spanBytes, buries, runs, lowest, slotOf, filled, adding, renewing, carriedOut, add, replace}
 use Rattle.load.specs.Fits.{sourceFits, lenFits, targetFits, loadTests}
@@ -36,7 +36,7 @@ unfolding image cal head tables magic beBytes leBytes ones onesIn be le lengthFi
 spans-hold = refl and refl and nothing-more
 
 offsets-hold : All offsets
-unfolding image cal head tables magic beBytes leBytes ones onesIn be le lengthFits headerAt addressFits bootblockFits alignFits offsetFits tests refusal master bytesOf partOf stepFits stepBy eqBytes all nameTests nameFits beforeZero fieldTests fieldFits startsWithMagic componentOf headerTests wellFormed fields judge any keep placesBelow places carries buried plain guarded unless orElse first step onward follow steps listingFrom bears foremost only fromPlace log hidingAt splice takes stray strays toldApart decide verdict start fieldSize headerBytes fieldBytes spanBytes buries runs lowest slotOf filled adding renewing carriedOut add replace
+unfolding image cal head tables magic beBytes leBytes ones onesIn be le lengthFits headerAt addressFits bootblockFits alignFits offsetFits tests refusal master bytesOf partOf stepFits stepBy eqBytes all nameTests nameFits beforeZero fieldTests fieldFits startsWithMagic componentOf headerTests wellFormed fields judge any keep placesBelow places carries buried plain guarded unless orElse first step onward follow steps listingFrom bears foremost only fromPlace log hidingAt splice takes stray strays noTwo decide verdict start fieldSize headerBytes fieldBytes spanBytes buries runs lowest slotOf filled adding renewing carriedOut add replace
 offsets-hold = refl and refl and refl and nothing-more
 
 lost : Walked (plainStep A-500) 0 (told 0 40 500 table 6 576 ∷ [])
@@ -59,15 +59,15 @@ unfolding image cal head tables magic beBytes leBytes ones onesIn be le lengthFi
 twice-hold = refl and refl and nothing-more
 
 replacing-hold : All replacing
-unfolding image cal head tables magic beBytes leBytes ones onesIn be le lengthFits headerAt addressFits bootblockFits alignFits offsetFits tests refusal master bytesOf partOf stepFits stepBy eqBytes all nameTests nameFits beforeZero fieldTests fieldFits startsWithMagic componentOf headerTests wellFormed fields judge any keep placesBelow places carries buried plain guarded unless orElse first step onward follow steps listingFrom bears foremost only fromPlace log hidingAt splice takes stray strays toldApart decide verdict start fieldSize headerBytes fieldBytes spanBytes buries runs lowest slotOf filled adding renewing carriedOut add replace
+unfolding image cal head tables magic beBytes leBytes ones onesIn be le lengthFits headerAt addressFits bootblockFits alignFits offsetFits tests refusal master bytesOf partOf stepFits stepBy eqBytes all nameTests nameFits beforeZero fieldTests fieldFits startsWithMagic componentOf headerTests wellFormed fields judge any keep placesBelow places carries buried plain guarded unless orElse first step onward follow steps listingFrom bears foremost only fromPlace log hidingAt splice takes stray strays noTwo decide verdict start fieldSize headerBytes fieldBytes spanBytes buries runs lowest slotOf filled adding renewing carriedOut add replace
 replacing-hold = refl and refl and nothing-more
 
 growing-hold : All growing
-unfolding image cal head tables magic beBytes leBytes ones onesIn be le lengthFits headerAt addressFits bootblockFits alignFits offsetFits tests refusal master bytesOf partOf stepFits stepBy eqBytes all nameTests nameFits beforeZero fieldTests fieldFits startsWithMagic componentOf headerTests wellFormed fields judge any keep placesBelow places carries buried plain guarded unless orElse first step onward follow steps listingFrom bears foremost only fromPlace log hidingAt splice takes stray strays toldApart decide verdict start fieldSize headerBytes fieldBytes spanBytes buries runs lowest slotOf filled adding renewing carriedOut add replace
+unfolding image cal head tables magic beBytes leBytes ones onesIn be le lengthFits headerAt addressFits bootblockFits alignFits offsetFits tests refusal master bytesOf partOf stepFits stepBy eqBytes all nameTests nameFits beforeZero fieldTests fieldFits startsWithMagic componentOf headerTests wellFormed fields judge any keep placesBelow places carries buried plain guarded unless orElse first step onward follow steps listingFrom bears foremost only fromPlace log hidingAt splice takes stray strays noTwo decide verdict start fieldSize headerBytes fieldBytes spanBytes buries runs lowest slotOf filled adding renewing carriedOut add replace
 growing-hold = refl and refl and nothing-more
 
 hiding-hold : All hiding
-unfolding image cal head tables magic beBytes leBytes ones onesIn be le lengthFits headerAt addressFits bootblockFits alignFits offsetFits tests refusal master bytesOf partOf stepFits stepBy eqBytes all nameTests nameFits beforeZero fieldTests fieldFits startsWithMagic componentOf headerTests wellFormed fields judge any keep placesBelow places carries buried plain guarded unless orElse first step onward follow steps listingFrom bears foremost only fromPlace log hidingAt splice takes stray strays toldApart decide verdict start fieldSize headerBytes fieldBytes spanBytes buries runs lowest slotOf filled adding renewing carriedOut add replace
+unfolding image cal head tables magic beBytes leBytes ones onesIn be le lengthFits headerAt addressFits bootblockFits alignFits offsetFits tests refusal master bytesOf partOf stepFits stepBy eqBytes all nameTests nameFits beforeZero fieldTests fieldFits startsWithMagic componentOf headerTests wellFormed fields judge any keep placesBelow places carries buried plain guarded unless orElse first step onward follow steps listingFrom bears foremost only fromPlace log hidingAt splice takes stray strays noTwo decide verdict start fieldSize headerBytes fieldBytes spanBytes buries runs lowest slotOf filled adding renewing carriedOut add replace
 hiding-hold = refl and refl and nothing-more
 
 plans-hold : All plans

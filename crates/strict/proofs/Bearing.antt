@@ -5,7 +5,7 @@ use mathlib.Core.List.{List, [], _∷_, List·Memᴰ, List·Memᴰ·head, List·
 use mathlib.Core.Logic.{_⊎_, inl, inr}
 use mathlib.Core.Bool.{Bool, true, false, cond, not, true≢false}
 use borrow.Author.Tests.{not-true}
-use Rattle.number.specs.Lists.{any, keep}
+use Rattle.number.specs.Lists.{any, keep, noTwo}
 use Rattle.walk.specs.Walk.{Entry}
 use Rattle.lookup.specs.Lookup.{refused, gives, foremost, only, bears}
 use Rattle.number.proofs.Tested.{any-false, mem-keep, both-true, keep-none}
@@ -59,7 +59,7 @@ module _ (bearing spoiled : Entry → Bool) where
 
 -- Where no two names are equal, a component is the only bearer of its name.
 pub lone : (l : List Entry) → toldApart l ≡ true → (t : Entry) → List·Memᴰ t l → keep (bears (t .component .name)) l ≡ t ∷ []
-unfolding toldApart keep
+unfolding noTwo keep
 lone [] d t m = absurd (List·Memᴰ·not-nil m)
 lone (x ∷ xs) d t m = go (List·Memᴰ·cases-cons m) (λ n. lone xs (s .1) t n)
   where

@@ -14,10 +14,10 @@ use Rattle.number.specs.Bytes.{eqBytes}
 use Rattle.number.specs.Tests.{all}
 use Rattle.component.specs.Names.{nameTests, nameFits, beforeZero, fieldTests, fieldFits}
 use Rattle.component.specs.Component.{magic, startsWithMagic, componentOf, headerTests, wellFormed, fields, judge}
-use Rattle.number.specs.Lists.{any, keep}
+use Rattle.number.specs.Lists.{any, keep, noTwo}
 use Rattle.walk.specs.Walk.{Entry, placesBelow, places, carries, buried, plain, unless, guarded, orElse, first, step, onward, follow, steps, listingFrom, guardedListing}
 use Rattle.lookup.specs.Lookup.{bears, only, gives, guardedLookup}
-use Rattle.strict.specs.Strict.{limit, takes, stray, strays, toldApart, Accepted, refused, accepted, decide, verdict}
+use Rattle.strict.specs.Strict.{limit, takes, stray, strays, Accepted, refused, accepted, decide, verdict}
 use Rattle.strict.specs.Slots.{start, within, hit, Spoilt, Kept}
 use Rattle.strict.proofs.Verdicts.{accepted-exactly}
 use Rattle.strict.proofs.Accepting.{spoiling}
@@ -54,7 +54,7 @@ unfolding cal bytes slot12 slot13 regionA entry be eqBytes all nameTests nameFit
 listed-A = refl
 
 verdict-A : verdict limit regionA 64 ≡ accepted (0 ∷ 192 ∷ [])
-unfolding cal bytes slot12 slot13 regionA be eqBytes all nameTests nameFits beforeZero fieldTests fieldFits magic startsWithMagic componentOf headerTests wellFormed fields judge any keep placesBelow places carries plain orElse first step onward follow steps listingFrom bears takes stray strays toldApart decide verdict
+unfolding cal bytes slot12 slot13 regionA be eqBytes all nameTests nameFits beforeZero fieldTests fieldFits magic startsWithMagic componentOf headerTests wellFormed fields judge any keep placesBelow places carries plain orElse first step onward follow steps listingFrom bears takes stray strays noTwo decide verdict
 verdict-A = refl
 
 accepted-A : Accepted regionA 64
@@ -62,7 +62,7 @@ accepted-A = accepted-exactly regionA 64 (0 ∷ 192 ∷ []) .0 verdict-A .0
 
 -- The plain walk loses cal/13, and the strict check refuses with its place.
 verdict-500 : verdict limit region500 64 ≡ refused 12 192
-unfolding cal bytes slot12 slot13 region500 be eqBytes all nameTests nameFits beforeZero fieldTests fieldFits magic startsWithMagic componentOf headerTests wellFormed fields judge any keep placesBelow places carries plain orElse first step onward follow steps listingFrom bears takes stray strays toldApart decide verdict
+unfolding cal bytes slot12 slot13 region500 be eqBytes all nameTests nameFits beforeZero fieldTests fieldFits magic startsWithMagic componentOf headerTests wellFormed fields judge any keep placesBelow places carries plain orElse first step onward follow steps listingFrom bears takes stray strays noTwo decide verdict
 verdict-500 = refl
 
 -- The guarded walk lists only cal/13, at 192.

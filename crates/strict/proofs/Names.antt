@@ -12,7 +12,7 @@ use lib.Seq.{getD-set-same, getD-set-other, drop-cons}
 use Rattle.number.specs.Bytes.{eqBytes}
 use Rattle.number.proofs.SameBytes.{eq-true}
 use Rattle.component.specs.Component.{judge}
-use Rattle.number.specs.Lists.{any}
+use Rattle.number.specs.Lists.{any, noTwo}
 use Rattle.walk.specs.Walk.{Entry, plainListing}
 use Rattle.lookup.specs.Lookup.{bears}
 use Rattle.walk.proofs.Members.{given}
@@ -48,17 +48,17 @@ any-end f ps k n h = rw (window-end ps k n h)
 
 pub apart-not : (r ps : List ℕ) (i n : ℕ) → i < n → n ≤ length ps
     → any (named r (nameAt r (getD ps i 0))) (take (n - (i + 1)) (drop (i + 1) ps)) ≡ true → apartAt r (take (n - i) (drop i ps)) ≡ false
-unfolding apartAt
+unfolding noTwo
 apart-not r ps i n h l y = rw (window-cons ps i n h l, y)
 
 pub apart-on : (r ps : List ℕ) (i n : ℕ) → i < n → n ≤ length ps
     → any (named r (nameAt r (getD ps i 0))) (take (n - (i + 1)) (drop (i + 1) ps)) ≡ false
     → apartAt r (take (n - i) (drop i ps)) ≡ apartAt r (take (n - (i + 1)) (drop (i + 1) ps))
-unfolding apartAt
+unfolding noTwo
 apart-on r ps i n h l y = rw (window-cons ps i n h l, y)
 
 pub apart-end : (r ps : List ℕ) (i n : ℕ) → n ≤ i → apartAt r (take (n - i) (drop i ps)) ≡ true
-unfolding apartAt
+unfolding noTwo
 apart-end r ps i n h = rw (window-end ps i n h)
 
 -- The places tell the names apart as the listing does.
@@ -72,7 +72,7 @@ same-any r name [] j = refl
 same-any r name (e ∷ l) j = rw (j e (List·Memᴰ·head refl), same-any r name l (λ x m. j x (List·Memᴰ·tail m)))
 
 same-apart : (r : List ℕ) (l : List Entry) → Judged r l → apartAt r (placesOf l) ≡ toldApart l
-unfolding apartAt toldApart
+unfolding noTwo
 same-apart r [] j = refl
 same-apart r (e ∷ l) j =
     let k : Judged r l = λ x m. j x (List·Memᴰ·tail m) in

@@ -8,7 +8,7 @@ use mathlib.Core.Logic.{_↔_, _⊎_, inl, inr}
 use mathlib.Core.Bool.{Bool, true, false, cond, not, _&&_, _||_, true≢false, false≢true, and-false}
 use lib.ListN.{length}
 use borrow.Author.Tests.{not-true}
-use Rattle.number.specs.Lists.{any, keep}
+use Rattle.number.specs.Lists.{any, keep, noTwo}
 use Rattle.walk.specs.Walk.{Entry, placesBelow, places, allPlaces, carries, plainListing, Place}
 use Rattle.lookup.specs.Lookup.{bears}
 use Rattle.walk.proofs.Places.{no-places, mem-places}
@@ -89,7 +89,7 @@ any-split f (y ∷ ys) e = go (f y) refl e (any-split f ys)
     go false q e′ ih = let (b, x, c, s, p) = ih e′ in (y ∷ b, x, c, ap (λ (l : List Entry). y ∷ l) s, p)
 
 apart-alike : (l : List Entry) → toldApart l ≡ false → TwoAlike l
-unfolding toldApart
+unfolding noTwo
 apart-alike [] e = absurd (true≢false e)
 apart-alike (t ∷ ts) e = go (any (bears (t .component .name)) ts) refl e (apart-alike ts)
   where
@@ -101,7 +101,7 @@ apart-alike (t ∷ ts) e = go (any (bears (t .component .name)) ts) refl e (apar
 
 alike-apart : (before : List Entry) (t : Entry) (between : List Entry) (u : Entry) (after : List Entry) → t .component .name ≡ u .component .name
     → toldApart (before ++ (t ∷ (between ++ (u ∷ after)))) ≡ false
-unfolding toldApart
+unfolding noTwo
 alike-apart [] t between u after e = rw (any-append between)
   where
     any-append : (l : List Entry) → any (bears (t .component .name)) (l ++ (u ∷ after)) ≡ true

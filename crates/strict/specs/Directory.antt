@@ -2,12 +2,12 @@
 use Prim.Native.Nat.{ℕ, _+_, _*_, _%_, _<_}
 use mathlib.Core.Path.{_≡_}
 use mathlib.Core.List.{List, [], _∷_, map}
-use mathlib.Core.Bool.{Bool, true, false, cond, not, _&&_}
+use mathlib.Core.Bool.{Bool, true, false, cond}
 use lib.ListN.{length, getD, drop, set, replicate}
 use lib.Dec.{eqb}
 use Rattle.number.specs.Bytes.{eqBytes}
 use Rattle.component.specs.Component.{judge, nameOf}
-use Rattle.number.specs.Lists.{any, padded}
+use Rattle.number.specs.Lists.{noTwo, padded}
 use Rattle.walk.specs.Walk.{Entry, plainListing}
 use Rattle.strict.specs.Strict.{limit, Verdict, refused, accepted, strays, verdict}
 use Rattle.strict.specs.declared.Directory.{Directory}
@@ -62,6 +62,5 @@ unfoldable pub named : List ℕ → List ℕ → ℕ → Bool
 named r name p = eqBytes (nameAt r p) name
 
 -- No two of the components at these places have the same name.
-unfoldable pub apartAt : List ℕ → List ℕ → Bool
-apartAt r [] = true
-apartAt r (p ∷ ps) = let rest = apartAt r ps in not (any (named r (nameAt r p)) ps) && rest
+abbrev pub apartAt : List ℕ → List ℕ → Bool
+apartAt r ps = noTwo (λ p. named r (nameAt r p)) ps

@@ -6,7 +6,7 @@ use mathlib.Core.Bool.{Bool, true, false, cond, not, _&&_}
 use mathlib.Core.Option.{some}
 use lib.ListN.{length}
 use lib.Dec.{ltb, eqb}
-use Rattle.number.specs.Lists.{any, keep}
+use Rattle.number.specs.Lists.{any, keep, noTwo}
 use Rattle.component.specs.Component.{Component}
 use Rattle.walk.specs.Walk.{Entry, allPlaces, carries, guarded, plainListing, Place}
 use Rattle.lookup.specs.Lookup.{bears}
@@ -28,9 +28,8 @@ unfoldable pub strays : List ℕ → ℕ → List ℕ
 strays r a = keep (stray r (plainListing r a)) (allPlaces r a)
 
 -- No two names are equal.
-unfoldable pub toldApart : List Entry → Bool
-toldApart [] = true
-toldApart (t ∷ ts) = let rest = toldApart ts in not (any (bears (t .component .name)) ts) && rest
+abbrev pub toldApart : List Entry → Bool
+toldApart l = noTwo (λ t. bears (t .component .name)) l
 
 -- The strict check accepts.
 pub record Accepted (r : List ℕ) (a : ℕ) : Type 0 where
