@@ -10,7 +10,9 @@ use borrow.Author.Tests.{leb-true}
 use Rattle.number.specs.Tests.{every, all}
 use Rattle.number.proofs.Passing.{passes}
 use Rattle.number.proofs.SameBytes.{eq-true, eq-refl}
-use Rattle.area.specs.Names.{isPrintable, Fit, printed, nameTests, nameFits, nameOf, nameAt}
+use Rattle.number.specs.Letters.{printed}
+use Rattle.number.proofs.Letters.{all-printed}
+use Rattle.area.specs.Names.{Fit, nameTests, nameFits, nameOf, nameAt}
 use Rattle.area.specs.Area.{Inside, Apart, Holds, ApartOrNested, Own, endOf, bears, sameName, extentFits, disjoint, holds, cross, ownTests, holdsMap}
 use Rattle.area.specs.declared.Area.{Area}
 
@@ -20,15 +22,6 @@ extent l a e = record { some-byte = leb-true 1 (a .size) (p 0); within = leb-tru
   where
     p : (k : ℕ) → getD (leb 1 (a .size) ∷ leb (endOf a) l ∷ []) k true ≡ true
     p k = passes k (leb 1 (a .size) ∷ leb (endOf a) l ∷ []) e
-
-all-printed : (f : List ℕ) → all isPrintable (printed f) ≡ true
-unfolding all printed
-all-printed [] = refl
-all-printed (b ∷ f) = go (isPrintable b) refl (all-printed f)
-  where
-    go : (t : Bool) → isPrintable b ≡ t → all isPrintable (printed f) ≡ true → all isPrintable (cond t (b ∷ printed f) []) ≡ true
-    go true q ih = rw q ih
-    go false q ih = refl
 
 pub fit : (f : List ℕ) → nameFits f ≡ true → Fit (nameOf f)
 unfolding nameOf nameFits nameTests

@@ -1,4 +1,4 @@
--- Laws of names: as a loop over the indices meets them, and as parts of the bytes.
+-- Laws of names: test by test, and as parts of the bytes.
 use Prim.Native.Nat.{ℕ, zero, suc, _+_, _≤_, _<_, min}
 use native.Mathlib.Nat.{add-zero}
 use native.Mathlib.Numerals.{add-one}
@@ -14,39 +14,9 @@ use borrow.Author.Tests.{le-leb, lt-leb, leb-true, eq-eqb, ne-eqb}
 use Rattle.number.specs.Bytes.{partOf}
 use Rattle.number.proofs.Passing.{fails, passes}
 use Rattle.number.proofs.Splice.{part-in}
-use Rattle.area.specs.Names.{isPrintable, printed, nameTests, nameFits, nameOf, nameAt}
-
--- printed, over the indices
-
-pub printed-here : (f : List ℕ) (i : ℕ) → i < length f → isPrintable (getD f i 0) ≡ true → i + length (printed (drop i f)) ≡ i + 1 + length (printed (drop (i + 1) f))
-unfolding printed
-printed-here f i h y = rw (drop-cons f i 0 h, y, add-one) (omega arith)
-
-pub printed-not : (f : List ℕ) (i : ℕ) → i < length f → isPrintable (getD f i 0) ≡ false → i + length (printed (drop i f)) ≡ i
-unfolding printed
-printed-not f i h n = rw (drop-cons f i 0 h, n) (add-zero i)
-
-pub printed-end : (f : List ℕ) (i : ℕ) → length f ≤ i → i + length (printed (drop i f)) ≡ i
-unfolding printed
-printed-end f i h = rw (drop-of-length-le f h) (add-zero i)
-
-printed-take : (f : List ℕ) → take (length (printed f)) f ≡ printed f
-unfolding printed
-printed-take [] = refl
-printed-take (b ∷ f) = go (isPrintable b) (printed-take f)
-  where
-    go : (t : Bool) → take (length (printed f)) f ≡ printed f → take (length (cond t (b ∷ printed f) [])) (b ∷ f) ≡ cond t (b ∷ printed f) []
-    go true e = ap (λ (l : List ℕ). b ∷ l) e
-    go false e = refl
-
-printed-le : (f : List ℕ) → length (printed f) ≤ length f
-unfolding printed
-printed-le [] = omega arith
-printed-le (b ∷ f) = go (isPrintable b) (printed-le f)
-  where
-    go : (t : Bool) → length (printed f) ≤ length f → length (cond t (b ∷ printed f) []) ≤ suc (length f)
-    go true h = omega arith
-    go false h = omega arith
+use Rattle.number.specs.Letters.{printed}
+use Rattle.number.proofs.Letters.{printed-take, printed-le}
+use Rattle.area.specs.Names.{nameTests, nameFits, nameOf, nameAt}
 
 -- The length of the name, by the tests. n is what was counted, up to 32.
 

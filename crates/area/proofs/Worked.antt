@@ -6,7 +6,8 @@ use mathlib.Core.List.{List, [], _∷_, _++_, map}
 use lib.ListN.{replicate}
 use Rattle.number.specs.Number.{le}
 use Rattle.number.specs.Bytes.{eqBytes}
-use Rattle.area.specs.Names.{printed, nameTests, nameFits, nameOf}
+use Rattle.number.specs.Letters.{printed}
+use Rattle.area.specs.Names.{nameTests, nameFits, nameOf}
 use Rattle.area.specs.Area.{areaAt, unused, areaIn, bears, extentFits, disjoint, holds, cross, ownName, ownTests, holdsMap}
 use Rattle.area.specs.declared.Area.{Area}
 

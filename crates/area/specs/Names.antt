@@ -6,15 +6,7 @@ use mathlib.Core.Bool.{Bool, true, cond}
 use lib.ListN.{length, drop, getD}
 use lib.Dec.{leb, eqb}
 use Rattle.number.specs.Tests.{every, all}
-
--- A byte of a name.
-abbrev pub isPrintable : ℕ → Bool
-isPrintable b = every (leb 0x21 b ∷ leb b 0x7E ∷ [])
-
--- The bytes of 0x21 to 0x7E at the start.
-unfoldable pub printed : List ℕ → List ℕ
-printed [] = []
-printed (b ∷ bs) = cond (isPrintable b) (b ∷ printed bs) []
+use Rattle.number.specs.Letters.{isPrintable, printed}
 
 -- The name n at the start of the bytes f is fit. Past the end of f stands no zero.
 unfoldable pub nameTests : List ℕ → List ℕ → List Bool

@@ -1,11 +1,10 @@
 // An area of a flash map, by itself and beside another (document 01, "Flash map"): its record, its name, and refusals 33 to 37 as far as they are about one area or two.
 // Ends of areas are compared by differences, so that no numbers overflow.
 ghost use mathlib.Core.Path.{_≡_};
-ghost use Prim.Native.Nat.{min};
 ghost use lib.ListN.{length};
 ghost use lib.Dec.{leb};
 ghost use Rattle.terms.specs.Refusals.{firstFailed};
-ghost use Rattle.area.specs.Names.{printed as printedOf, nameOf, nameAt};
+ghost use Rattle.area.specs.Names.{nameOf, nameAt};
 ghost use Rattle.area.specs.Area.{unused as unusedOf, areaIn, endOf, bears as bearsOf, extentFits, disjoint as disjointOf, holds as holdsOf, cross as crossOf, holdsMap, areaTests};
 
 // An area of a map: where it begins, how long it is, its flags, and the place of its name.
@@ -47,32 +46,11 @@ pub fn at(s: &[u8], p: usize) -> Area
     }
 }
 
-// How many bytes of 0x21 to 0x7E the bytes begin with, up to 32.
-fn printed(f: &[u8]) -> usize
-    ensures { λ r. ⌜ r ≡ min 32 (length (printedOf (now (f .entry)))) ⌝ }
-{
-    let mut i = 0;
-    while i < 32 {
-        if f.len() <= i {
-            return i;
-        }
-        let b = f[i];
-        if b < 0x21 {
-            return i;
-        }
-        if 0x7E < b {
-            return i;
-        }
-        i += 1;
-    }
-    32
-}
-
 // The length of the name at the start of the bytes, or 0 where none is fit.
 fn name_length(f: &[u8]) -> usize
     ensures { λ r. ⌜ r ≡ length (nameOf (now (f .entry))) ⌝ }
 {
-    let n = printed(f);
+    let n = number::printed(f, 32);
     if 31 < n {
         return 0;
     }

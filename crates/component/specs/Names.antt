@@ -5,10 +5,7 @@ use mathlib.Core.Bool.{Bool, cond}
 use lib.ListN.{length, drop}
 use lib.Dec.{ltb, leb, eqb}
 use Rattle.number.specs.Tests.{every, all}
-
--- A byte of a name.
-abbrev pub isPrintable : ℕ → Bool
-isPrintable b = every (leb 0x21 b ∷ leb b 0x7E ∷ [])
+use Rattle.number.specs.Letters.{isPrintable}
 
 abbrev pub isZero : ℕ → Bool
 isZero b = eqb b 0

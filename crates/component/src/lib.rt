@@ -1,12 +1,9 @@
 // A CBFS component: the magic, the header's judge, and names (document 01, "Components and the two walks").
 // A part is what begins at a component's place and goes up to the region's end.
 ghost use mathlib.Core.Path.{_≡_};
-ghost use mathlib.Core.Bool.{false};
-ghost use lib.ListN.{length};
 ghost use Rattle.number.specs.Tests.{all};
-ghost use Rattle.component.specs.Names.{isPrintable, isZero, nameFits, beforeZero, nameLength};
+ghost use Rattle.component.specs.Names.{isZero, nameFits, nameLength};
 ghost use Rattle.component.specs.Component.{startsWithMagic, fields as fieldsOf, judge as judgeOf, judged, nameOf, contentOf};
-ghost use Rattle.component.specs.declared.Judged.the-variants.{IllFormed};
 
 // The numbers of a well-formed header.
 pub struct Header {
@@ -35,20 +32,6 @@ pub fn starts_with_magic(s: &[u8]) -> bool
     number::le64(s, 0) == number::le64(b"LARCHIVE", 0)
 }
 
-// How many bytes stand before the first zero.
-fn before_zero(f: &[u8]) -> usize
-    ensures { λ r. ⌜ r ≡ length (beforeZero (now (f .entry))) ⌝ }
-{
-    let mut i = 0;
-    while i < f.len() {
-        if f[i] == 0 {
-            return i;
-        }
-        i += 1;
-    }
-    i
-}
-
 // Every byte is zero.
 fn all_zero(f: &[u8]) -> bool
     ensures { λ r. ⌜ r ≡ all isZero (now (f .entry)) ⌝ }
@@ -56,24 +39,6 @@ fn all_zero(f: &[u8]) -> bool
     let mut i = 0;
     while i < f.len() {
         if f[i] != 0 {
-            return false;
-        }
-        i += 1;
-    }
-    true
-}
-
-// Every byte is 0x21 to 0x7E.
-fn all_printable(f: &[u8]) -> bool
-    ensures { λ r. ⌜ r ≡ all isPrintable (now (f .entry)) ⌝ }
-{
-    let mut i = 0;
-    while i < f.len() {
-        let b = f[i];
-        if b < 0x21 {
-            return false;
-        }
-        if 0x7E < b {
             return false;
         }
         i += 1;
@@ -92,19 +57,19 @@ pub fn name_fits(name: &[u8]) -> bool
     if 255 < name.len() {
         return false;
     }
-    all_printable(name)
+    number::printed(name, name.len()) == name.len()
 }
 
-// The length of the name in a name field, or 0 where the field is unfit.
+// The length of the name in a name field, or 0 where the field is unfit. Each byte is read once.
 pub fn name_length(f: &[u8]) -> usize
     ensures { λ r. ⌜ r ≡ nameLength (now (f .entry)) ⌝ }
     ensures kept { λ _. ⌜ now (f .exit) ≡ now (f .entry) ⌝ }
 {
-    let n = before_zero(f);
-    if f.len() <= n {
+    let n = number::printed(f, f.len());
+    if 255 < n {
         return 0;
     }
-    if !name_fits(&f[0..n]) {
+    if f.len() <= n {
         return 0;
     }
     if !all_zero(&f[n..]) {
@@ -113,22 +78,10 @@ pub fn name_length(f: &[u8]) -> usize
     n
 }
 
-// A quick look: the header is there, and its offset is one that a well-formed header can have. Where it is not, the header is ill formed.
-fn offset_possible(s: &[u8]) -> bool
-    ensures { λ r. ⌜ (r ≡ false → IllFormed ≡ judged (fieldsOf (now (s .entry)))) ⌝ }
-{
-    if 24 <= s.len() {
-        let o = number::be32(s, 20);
-        if 40 <= o {
-            return o <= 280;
-        }
-    }
-    false
-}
-
-// The header's fields, all tests.
-fn all_fields(s: &[u8]) -> Judged
+// The header's fields alone, for a part that is known to begin with the magic.
+pub fn fields(s: &[u8]) -> Judged
     ensures { λ j. ⌜ j ≡ judged (fieldsOf (now (s .entry))) ⌝ }
+    ensures kept { λ _. ⌜ now (s .exit) ≡ now (s .entry) ⌝ }
 {
     if s.len() < 24 {
         return Judged::IllFormed;
@@ -160,18 +113,6 @@ fn all_fields(s: &[u8]) -> Judged
     })
 }
 
-// The header's fields alone, for a part that is known to begin with the magic. Most that are ill formed fail at a quick look, which
-// costs a walk no call.
-pub fn fields(s: &[u8]) -> Judged
-    ensures { λ j. ⌜ j ≡ judged (fieldsOf (now (s .entry))) ⌝ }
-    ensures kept { λ _. ⌜ now (s .exit) ≡ now (s .entry) ⌝ }
-{
-    if !offset_possible(s) {
-        return Judged::IllFormed;
-    }
-    all_fields(s)
-}
-
 // The component that stands at the start of the part, if one does.
 pub fn judge(s: &[u8]) -> Judged
     ensures { λ j. ⌜ j ≡ judged (judgeOf (now (s .entry))) ⌝ }
@@ -180,7 +121,7 @@ pub fn judge(s: &[u8]) -> Judged
     if !starts_with_magic(s) {
         return Judged::IllFormed;
     }
-    all_fields(s)
+    fields(s)
 }
 
 // The name of the component that stands at the start of the part; empty where none does.

@@ -13,13 +13,13 @@ use Rattle.component.specs.Names.{nameFits}
 use Rattle.number.specs.Lists.{any}
 use Rattle.walk.specs.Walk.{Entry, end, plainListing, guardedListing, Place}
 use Rattle.lookup.specs.Lookup.{bears, gives}
-use Rattle.number.proofs.Tested.{any-false}
+use Rattle.number.proofs.Tested.{any-false, keep-all}
 use Rattle.lookup.proofs.Answers.{lookup-member}
 use Rattle.strict.specs.Strict.{Accepted, verdict}
 use Rattle.strict.proofs.Accepting.{walks-agree}
 use Rattle.edit.specs.Edit.{Free, Run, holds, runs, Slot, slotOf, freeRuns, lowest, buries, spanBytes, Decision, refuse, afterCheck, adding, renewing, clearing, refusal, done, carriedOut, add, replace, remove, putIn, without, HeldAt, Open, Addable}
 use Rattle.edit.proofs.Written.{length-span}
-use Rattle.edit.proofs.Lists.{keep-all, keep-put}
+use Rattle.edit.proofs.Lists.{keep-put}
 use Rattle.edit.proofs.Runs.{row, Gap, mem-runs, runs-all, lowest-none, lowest-some}
 use Rattle.edit.proofs.Decisions.{clash, not-write, refused-is, is-refused, is-done, check-accepted, check-late, AddCase, unfit, used, full, hidden, nowhere, placed, add-case, RenewCase, unborne, burying, long, fitting, renew-case, ClearCase, missing, clears, clear-case}
 use Rattle.edit.proofs.Outcomes.{Added, Removed, at}

@@ -9,44 +9,14 @@ use lib.ListN.{length}
 use lib.Dec.{ltb, eqb}
 use borrow.Author.Tests.{eqb-true, eq-eqb, ne-eqb, lt-ltb, le-ltb, not-true}
 use Rattle.number.specs.Bytes.{eqBytes}
-use Rattle.number.proofs.SameBytes.{eq-true, eq-refl}
+use Rattle.number.proofs.SameBytes.{eq-true, eq-turn}
 use Rattle.number.specs.Lists.{any, keep, noTwo}
 use Rattle.walk.specs.Walk.{Entry}
 use Rattle.lookup.specs.Lookup.{bears}
-use Rattle.number.proofs.Tested.{any-false, none-any, or-false, mem-keep, both-true, keep-comm}
+use Rattle.number.proofs.Tested.{or-false, mem-keep, both-true, keep-comm, keep-all}
 use Rattle.strict.specs.Strict.{toldApart}
 use Rattle.strict.proofs.Slots.{Rising}
 use Rattle.edit.specs.Edit.{putIn, instead, without}
-
-module _ {ℓ} {A : Type ℓ} where
-  pub keep-all : (f : A → Bool) (l : List A) → ((x : A) → List·Memᴰ x l → f x ≡ true) → keep f l ≡ l
-  unfolding keep
-  keep-all f [] h = refl
-  keep-all f (x ∷ xs) h = rw (h x (List·Memᴰ·head refl), keep-all f xs (λ y m. h y (List·Memᴰ·tail m)))
-
-  pub length-keep : (f : A → Bool) (l : List A) → length (keep f l) ≤ length l
-  unfolding keep
-  length-keep f [] = omega arith
-  length-keep f (x ∷ xs) = go (f x) (length-keep f xs)
-    where
-      go : (b : Bool) → length (keep f xs) ≤ length xs → length (cond b (x ∷ keep f xs) (keep f xs)) ≤ suc (length xs)
-      go true ih = omega arith
-      go false ih = omega arith
-
-pub apart-keep : (f : Entry → Bool) (l : List Entry) → toldApart l ≡ true → toldApart (keep f l) ≡ true
-unfolding keep noTwo
-apart-keep f [] e = refl
-apart-keep f (x ∷ xs) e = go (f x) (apart-keep f xs (s .1))
-  where
-    s : (not (any (bears (x .component .name)) xs) ≡ true) × (toldApart xs ≡ true)
-    s = both-true (not (any (bears (x .component .name)) xs)) (toldApart xs) e
-
-    fresh : any (bears (x .component .name)) (keep f xs) ≡ false
-    fresh = none-any (bears (x .component .name)) (keep f xs) (λ y m. any-false (bears (x .component .name)) xs (not-true _ (s .0)) y (mem-keep f xs y m .0))
-
-    go : (b : Bool) → toldApart (keep f xs) ≡ true → toldApart (cond b (x ∷ keep f xs) (keep f xs)) ≡ true
-    go true ih = rw (fresh, ih)
-    go false ih = ih
 
 abbrev pub After : Entry → List Entry → Type 0
 After t l = (d : Entry) → List·Memᴰ d l → t .place < d .place
@@ -123,13 +93,6 @@ any-put f t (x ∷ xs) p q = go (ltb (t .place) (x .place)) (any-put f t xs p (o
     go : (b : Bool) → any f (putIn t xs) ≡ false → any f (cond b (t ∷ x ∷ xs) (x ∷ putIn t xs)) ≡ false
     go true ih = rw p q
     go false ih = rw (or-false (f x) (any f xs) q .0) ih
-
-eq-turn : (u v : List ℕ) → eqBytes u v ≡ false → eqBytes v u ≡ false
-eq-turn u v e = go (eqBytes v u) refl
-  where
-    go : (b : Bool) → eqBytes v u ≡ b → b ≡ false
-    go false q = refl
-    go true q = absurd (true≢false (sym (eq-refl u) ∙ rw (eq-true v u q) at e))
 
 -- Only its own name is borne.
 pub bears-not : (n : List ℕ) (t : Entry) → (n ≡ t .component .name → ⊥) → bears n t ≡ false

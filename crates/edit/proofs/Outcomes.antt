@@ -16,14 +16,14 @@ use Rattle.walk.proofs.Picks.{guarded-carries}
 use Rattle.lookup.proofs.Bearers.{bears-name}
 use Rattle.strict.specs.Strict.{toldApart, Accepted, Sound}
 use Rattle.strict.specs.Slots.{hit, Spoilt}
-use Rattle.number.proofs.Tested.{keep-same, keep-comm}
+use Rattle.number.proofs.Tested.{keep-same, keep-comm, keep-all, length-keep, two-keep}
 use Rattle.strict.proofs.Frames.{mem-guarded, still-sound}
 use Rattle.strict.proofs.Slots.{Clear, same-slot, hit-own, guarded-rising}
 use Rattle.strict.proofs.Bearing.{lone}
 use Rattle.strict.proofs.Accepting.{taken-sound, walks-agree, accepted-context-free}
 use Rattle.edit.specs.Edit.{Run, Slot, slotOf, freeRuns, lowest, buries, spanBytes, filled, putIn, instead, without, made, HeldAt, Addable}
 use Rattle.edit.proofs.Written.{Fit, name-fit, length-span, filled-length, filled-ones}
-use Rattle.edit.proofs.Lists.{keep-all, length-keep, apart-keep, put-instead, length-put, length-instead, apart-put, apart-instead, keep-put, keep-instead, keep-without, bears-not}
+use Rattle.edit.proofs.Lists.{put-instead, length-put, length-instead, apart-put, apart-instead, keep-put, keep-instead, keep-without, bears-not}
 use Rattle.edit.proofs.Filling.{Room, inRun, in-true, in-of, out-after, out-before, carries-first, outside, frame, rest-same, new-listed, alone, new-listing, new-sound}
 use Rattle.edit.proofs.Runs.{row, Gap, mem-runs, lowest-some, lowest-least, Own, slot-own, slot-within, gap-room, own-room}
 
@@ -349,7 +349,7 @@ module _ (r : List ℕ) (a : ℕ) (big : 8 ≤ a) (acc : Accepted r a) (name : L
   accepted₄ = accept r₄ a pos₂
       (still-sound r r₄ a big (inRun (z .run)) (frame r a big sound₂ (z .run) room₂ [] bare) sound₂ (λ p pl e c. absurd (no-magic p e c)))
       (rw listed₄ (omega (arith, length-keep (λ u. not (eqb (u .place) (z .run .from))) L₂, ap length same₂, acc .few)))
-      (rw listed₄ (apart-keep (λ u. not (eqb (u .place) (z .run .from))) L₂ told₂))
+      (rw listed₄ (two-keep _ (λ u. not (eqb (u .place) (z .run .from))) L₂ told₂))
 
   -- Nothing that is left bears the name.
   none-left : keep (bears name) (guardedListing r₄ a) ≡ []

@@ -14,7 +14,8 @@ use Rattle.number.specs.Bytes.{eqBytes, splice}
 use Rattle.number.specs.Tests.{all}
 use Rattle.number.proofs.Digits.{length-beBytes, be-beBytes}
 use Rattle.number.proofs.Passing.{passes}
-use Rattle.component.specs.Names.{isPrintable, isZero, nameTests, nameFits, beforeZero, fieldTests, fieldFits}
+use Rattle.number.specs.Letters.{isPrintable}
+use Rattle.component.specs.Names.{isZero, nameTests, nameFits, beforeZero, fieldTests, fieldFits}
 use Rattle.component.specs.Component.{magic, startsWithMagic, lenOf, kindOf, offsetOf, nameField, componentOf, judge}
 use Rattle.component.proofs.Judging.{unformed}
 use Rattle.edit.specs.Edit.{fieldSize, offsetFor, headerBytes, fieldBytes, spanBytes, Run, filled, made}

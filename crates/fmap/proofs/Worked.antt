@@ -10,7 +10,8 @@ use Rattle.number.specs.Bytes.{eqBytes}
 use Rattle.number.specs.Tests.{every}
 use Rattle.number.specs.Lists.{any, noTwo, padded}
 use Rattle.terms.specs.Refusals.{lengthFits}
-use Rattle.area.specs.Names.{printed, nameTests, nameFits, nameOf}
+use Rattle.number.specs.Letters.{printed}
+use Rattle.area.specs.Names.{nameTests, nameFits, nameOf}
 use Rattle.area.specs.Area.{areaAt, unused, bears, extentFits, disjoint, holds, cross, ownName, ownTests, holdsMap, areaTests}
 use Rattle.fmap.specs.Signatures.{signature, signed, signedAt, placesFrom, signaturesAt, signaturesFrom}
 use Rattle.fmap.specs.Fmap.{areasAt, countFits, signatureTests, headerTests, turnTests, wholeTests, testsAt, tests, mapOf, refused, answer, fmapBy, fmap}

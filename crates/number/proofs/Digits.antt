@@ -7,7 +7,7 @@ use native.Mathlib.Omega.{arith}
 use native.Mathlib.Decide.{decLt}
 use lib.ListN.{length, take, drop, getD, length-append, List·getD-eq-default}
 use lib.Seq.{getD-at, getD-take, getD-drop}
-use Rattle.number.specs.Number.{be, le, beBytes, leBytes}
+use Rattle.number.specs.Number.{be, le, beBytes, leBytes, turned}
 
 -- Past the end every number is 0.
 
@@ -45,13 +45,29 @@ be-join w s i p q = rw (p, q) (sym (be-split w w s i))
 pub le-join : (w : ℕ) (s : List ℕ) (i : ℕ) {x y : ℕ} → x ≡ le w s i → y ≡ le w s (i + w) → x + y * 256 ^ w ≡ le (w + w) s i
 le-join w s i p q = rw (p, q) (sym (le-split w w s i))
 
-pub be-one : (s : List ℕ) (i : ℕ) → getD s i 0 ≡ be 1 s i
-unfolding be
-be-one s i = rw (add-zero i) (omega arith)
-
 pub le-one : (s : List ℕ) (i : ℕ) → getD s i 0 ≡ le 1 s i
 unfolding le
 le-one s i = omega arith
+
+-- The bytes of a little-endian number in the other order make the big-endian one.
+
+last : (a x : ℕ) → a < 256 → (a + x * 256) % 256 ≡ a
+last a x p = omega arith
+
+turn : (a b c d : ℕ) → a < 256 → b < 256 → c < 256 → turned (a + (b + (c + (d + 0 * 256) * 256) * 256) * 256) ≡ (((0 * 256 + a) * 256 + b) * 256 + c) * 256 + d
+turn a b c d p q r =
+    let v : ℕ = a + (b + (c + (d + 0 * 256) * 256) * 256) * 256 in
+    let e₁ : v / 256 ≡ b + (c + (d + 0 * 256) * 256) * 256 = omega arith in
+    let e₂ : v / 65536 ≡ c + (d + 0 * 256) * 256 = omega arith in
+    let e₃ : v / 16777216 ≡ d = omega arith in
+    rw (e₁, e₂, e₃, last a (b + (c + (d + 0 * 256) * 256) * 256) p, last b (c + (d + 0 * 256) * 256) q, last c (d + 0 * 256) r) (omega arith)
+
+pub turned-be : (s : List ℕ) (i : ℕ) → ((j : ℕ) → getD s j 0 < 256) → turned (le 4 s i) ≡ be 4 s i
+unfolding be le
+turned-be s i h =
+    let e₂ : i + 1 + 1 ≡ i + 2 = omega arith in
+    let e₃ : i + 1 + 1 + 1 ≡ i + 3 = omega arith in
+    rw (e₃, e₂, add-zero i) (turn (getD s i 0) (getD s (i + 1) 0) (getD s (i + 2) 0) (getD s (i + 3) 0) (h i) (h (i + 1)) (h (i + 2)))
 
 -- A number is told by its own bytes.
 

@@ -5,3 +5,4 @@ pub mod Splice
 pub mod Passing
 pub mod Padding
 pub mod Tested
+pub mod Letters

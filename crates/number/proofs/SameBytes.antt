@@ -1,8 +1,8 @@
 -- Laws of eqBytes, for a loop over the indices and for whoever compares.
 use Prim.Native.Nat.{ℕ, suc, _+_, _-_, _≤_, _<_}
 use native.Mathlib.Omega.{arith}
-use mathlib.Core.Path.{_≡_, refl, ap, _∙_}
-use mathlib.Core.Bool.{Bool, true, false, cond, false≢true}
+use mathlib.Core.Path.{_≡_, refl, sym, ap, _∙_}
+use mathlib.Core.Bool.{Bool, true, false, cond, true≢false, false≢true}
 use mathlib.Core.List.{List, [], _∷_}
 use native.Mathlib.Numerals.{add-one}
 use lib.ListN.{length, drop, getD, drop-of-length-le}
@@ -59,3 +59,11 @@ eq-differ a b i h = go (eqBytes a b) refl
     go : (t : Bool) → eqBytes a b ≡ t → eqBytes a b ≡ false
     go true e = absurd (h (ap (λ (x : List ℕ). getD x i 0) (eq-true a b e)))
     go false e = e
+
+-- The two may change places.
+pub eq-turn : (u v : List ℕ) → eqBytes u v ≡ false → eqBytes v u ≡ false
+eq-turn u v e = go (eqBytes v u) refl
+  where
+    go : (b : Bool) → eqBytes v u ≡ b → b ≡ false
+    go false q = refl
+    go true q = absurd (true≢false (sym (eq-refl u) ∙ rw (eq-true v u q) at e))

@@ -1,5 +1,5 @@
 -- Laws of lists by a Boolean test: told by the elements, and by the index.
-use Prim.Native.Nat.{ℕ, zero, suc, _<_}
+use Prim.Native.Nat.{ℕ, zero, suc, _≤_, _<_}
 use native.Mathlib.Omega.{arith}
 use mathlib.Core.Path.{_≡_, refl, sym, _∙_}
 use mathlib.Core.Logic.{_⊎_, inl, inr}
@@ -87,6 +87,35 @@ module _ {ℓ} {A : Type ℓ} where
   unfolding keep
   keep-none f [] h = refl
   keep-none f (y ∷ ys) h = rw (h y (List·Memᴰ·head refl)) (keep-none f ys (λ x m. h x (List·Memᴰ·tail m)))
+
+  pub keep-all : (f : A → Bool) (l : List A) → ((x : A) → List·Memᴰ x l → f x ≡ true) → keep f l ≡ l
+  unfolding keep
+  keep-all f [] h = refl
+  keep-all f (x ∷ xs) h = rw (h x (List·Memᴰ·head refl), keep-all f xs (λ y m. h y (List·Memᴰ·tail m)))
+
+  pub length-keep : (f : A → Bool) (l : List A) → length (keep f l) ≤ length l
+  unfolding keep
+  length-keep f [] = omega arith
+  length-keep f (x ∷ xs) = go (f x) (length-keep f xs)
+    where
+      go : (b : Bool) → length (keep f xs) ≤ length xs → length (cond b (x ∷ keep f xs) (keep f xs)) ≤ suc (length xs)
+      go true ih = omega arith
+      go false ih = omega arith
+
+  pub two-keep : (t : A → A → Bool) (f : A → Bool) (l : List A) → noTwo t l ≡ true → noTwo t (keep f l) ≡ true
+  unfolding keep noTwo
+  two-keep t f [] e = refl
+  two-keep t f (x ∷ xs) e = go (f x) (two-keep t f xs (s .1))
+    where
+      s : (not (any (t x) xs) ≡ true) × (noTwo t xs ≡ true)
+      s = both-true (not (any (t x) xs)) (noTwo t xs) e
+
+      fresh : any (t x) (keep f xs) ≡ false
+      fresh = none-any (t x) (keep f xs) (λ y m. any-false (t x) xs (not-true _ (s .0)) y (mem-keep f xs y m .0))
+
+      go : (b : Bool) → noTwo t (keep f xs) ≡ true → noTwo t (cond b (x ∷ keep f xs) (keep f xs)) ≡ true
+      go true ih = rw (fresh, ih)
+      go false ih = ih
 
   -- Tests that agree on the list keep the same.
   pub keep-same : (f g : A → Bool) (l : List A) → ((x : A) → List·Memᴰ x l → f x ≡ g x) → keep f l ≡ keep g l

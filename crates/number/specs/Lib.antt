@@ -2,3 +2,4 @@ pub mod Number
 pub mod Bytes
 pub mod Tests
 pub mod Lists
+pub mod Letters

@@ -22,3 +22,7 @@ beBytes (suc w) v = beBytes w (v / 256) ++ (v % 256 ∷ [])
 unfoldable pub leBytes : ℕ → ℕ → List ℕ
 leBytes zero v = []
 leBytes (suc w) v = v % 256 ∷ leBytes w (v / 256)
+
+-- A number of four bytes with its bytes in the other order.
+abbrev pub turned : ℕ → ℕ
+turned v = v % 256 * 16777216 + v / 256 % 256 * 65536 + v / 65536 % 256 * 256 + v / 16777216

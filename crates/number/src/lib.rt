@@ -1,11 +1,12 @@
 // Numbers in bytes, read and written; bytes copied, filled and compared.
 // Every function takes any bytes and any numbers: a byte past the end reads as 0, and a write that does not fit writes nothing.
 ghost use mathlib.Core.Path.{_≡_};
-ghost use Prim.Native.Nat.{_%_};
+ghost use Prim.Native.Nat.{_%_, min};
 ghost use mathlib.Core.List.{[], _∷_};
 ghost use lib.ListN.{length, drop, getD, replicate};
-ghost use Rattle.number.specs.Number.{be, le, beBytes, leBytes};
+ghost use Rattle.number.specs.Number.{be, le, beBytes, turned as turnedOf};
 ghost use Rattle.number.specs.Bytes.{partOf, eqBytes, fits, written};
+ghost use Rattle.number.specs.Letters.{printed as printedOf};
 
 // The byte at `at`.
 pub fn byte(s: &[u8], at: usize) -> u8
@@ -13,39 +14,6 @@ pub fn byte(s: &[u8], at: usize) -> u8
     ensures kept { λ _. ⌜ now (s .exit) ≡ now (s .entry) ⌝ }
 {
     if at < s.len() { s[at] } else { 0 }
-}
-
-// The big-endian 16-bit number at `at`.
-pub fn be16(s: &[u8], at: usize) -> u16
-    ensures { λ r. ⌜ r ≡ be 2 (now (s .entry)) at ⌝ }
-    ensures kept { λ _. ⌜ now (s .exit) ≡ now (s .entry) ⌝ }
-{
-    if s.len() <= at {
-        return 0;
-    }
-    byte(s, at) as u16 * 256 + byte(s, at + 1) as u16
-}
-
-// The big-endian 32-bit number at `at`.
-pub fn be32(s: &[u8], at: usize) -> u32
-    ensures { λ r. ⌜ r ≡ be 4 (now (s .entry)) at ⌝ }
-    ensures kept { λ _. ⌜ now (s .exit) ≡ now (s .entry) ⌝ }
-{
-    if s.len() <= at {
-        return 0;
-    }
-    be16(s, at) as u32 * 65536 + be16(s, at + 2) as u32
-}
-
-// The big-endian 64-bit number at `at`.
-pub fn be64(s: &[u8], at: usize) -> u64
-    ensures { λ r. ⌜ r ≡ be 8 (now (s .entry)) at ⌝ }
-    ensures kept { λ _. ⌜ now (s .exit) ≡ now (s .entry) ⌝ }
-{
-    if s.len() <= at {
-        return 0;
-    }
-    be32(s, at) as u64 * 4294967296 + be32(s, at + 4) as u64
 }
 
 // The little-endian 16-bit number at `at`.
@@ -79,6 +47,32 @@ pub fn le64(s: &[u8], at: usize) -> u64
         return 0;
     }
     le32(s, at) as u64 + le32(s, at + 4) as u64 * 4294967296
+}
+
+// A 32-bit number with its four bytes in the other order. The compiler makes one instruction of it, and of a little-endian number one load.
+fn turned(v: u32) -> u32
+    ensures { λ r. ⌜ r ≡ turnedOf v ⌝ }
+{
+    v % 256 * 16777216 + v / 256 % 256 * 65536 + v / 65536 % 256 * 256 + v / 16777216
+}
+
+// The big-endian 32-bit number at `at`.
+pub fn be32(s: &[u8], at: usize) -> u32
+    ensures { λ r. ⌜ r ≡ be 4 (now (s .entry)) at ⌝ }
+    ensures kept { λ _. ⌜ now (s .exit) ≡ now (s .entry) ⌝ }
+{
+    turned(le32(s, at))
+}
+
+// The big-endian 64-bit number at `at`.
+pub fn be64(s: &[u8], at: usize) -> u64
+    ensures { λ r. ⌜ r ≡ be 8 (now (s .entry)) at ⌝ }
+    ensures kept { λ _. ⌜ now (s .exit) ≡ now (s .entry) ⌝ }
+{
+    if s.len() <= at {
+        return 0;
+    }
+    be32(s, at) as u64 * 4294967296 + be32(s, at + 4) as u64
 }
 
 // The n bytes from `at` on, as a part of s; empty where they do not fit.
@@ -122,6 +116,28 @@ pub fn equal(a: &[u8], b: &[u8]) -> bool
         }
     }
     true
+}
+
+// How many bytes of 0x21 to 0x7E the bytes begin with, counted up to `most`.
+pub fn printed(s: &[u8], most: usize) -> usize
+    ensures { λ r. ⌜ r ≡ min most (length (printedOf (now (s .entry)))) ⌝ }
+    ensures kept { λ _. ⌜ now (s .exit) ≡ now (s .entry) ⌝ }
+{
+    let mut i = 0;
+    while i < most {
+        if s.len() <= i {
+            return i;
+        }
+        let b = s[i];
+        if b < 0x21 {
+            return i;
+        }
+        if 0x7E < b {
+            return i;
+        }
+        i += 1;
+    }
+    most
 }
 
 // Overwrites the whole of dst with the bytes of src, which is as long.
@@ -215,20 +231,5 @@ pub fn put_be32(dst: &mut [u8], at: usize, v: u32) -> bool
         digit(v / 256 / 256),
         digit(v / 256),
         digit(v),
-    )
-}
-
-// Overwrites the four bytes of dst from `at` on with v, little-endian, and says whether they fit.
-pub fn put_le32(dst: &mut [u8], at: usize, v: u32) -> bool
-    ensures { λ r. ⌜ r ≡ fits (now (dst .entry)) at 4 ⌝ }
-    ensures bytes { λ _. ⌜ now (dst .exit) ≡ written (now (dst .entry)) at (leBytes 4 v) ⌝ }
-{
-    put4(
-        dst,
-        at,
-        digit(v),
-        digit(v / 256),
-        digit(v / 256 / 256),
-        digit(v / 256 / 256 / 256),
     )
 }

@@ -6,7 +6,7 @@ ghost use mathlib.Core.Path.{_≡_};
 ghost use mathlib.Core.Bool.{true, false, cond};
 ghost use Prim.Native.Nat.{_+_, _-_, _≤_, _<_, min};
 ghost use lib.ListN.{length};
-ghost use Rattle.walk.specs.Walk.{nextMagic, onward as onwardOf, step as stepOf, told, pickOf, plain, guarded as guardedOf};
+ghost use Rattle.walk.specs.Walk.{nextMagic, onward as onwardOf, step as stepOf, told, pickOf, plain};
 
 // A component that a walk has taken, and the number to go on from.
 pub struct Taken {
@@ -151,12 +151,4 @@ pub fn plain_step(r: &[u8], align: usize, from: usize) -> Step
     ensures kept { λ _. ⌜ now (r .exit) ≡ now (r .entry) ⌝ }
 {
     walk_step(false, r, align, from)
-}
-
-// The first component that a guarded walk begun at `from` takes.
-pub fn guarded_step(r: &[u8], align: usize, from: usize) -> Step
-    ensures { λ s. ⌜ s ≡ told (now (r .entry)) align (stepOf (guardedOf (now (r .entry)) align) (now (r .entry)) align from) ⌝ }
-    ensures kept { λ _. ⌜ now (r .exit) ≡ now (r .entry) ⌝ }
-{
-    walk_step(true, r, align, from)
 }

@@ -9,12 +9,12 @@ printed-requires c κs = search needs
 returns : tie.Need-returns
 returns c =
     let n = c .before in
-    name-long (n .before .before .args .f .now) _ (n .printed .ensures) (c .if1 .taken)
+    name-long (n .before .before .args .f .now) _ (n .printed .ensures .0) (c .if1 .taken)
 
 returns-2 : tie.Need-returns-2
 returns-2 c =
     let n = c .before .before in
-    name-cut (n .before .before .args .f .now) _ (n .printed .ensures) (c .before .if1 .left) (c .if2 .taken)
+    name-cut (n .before .before .args .f .now) _ (n .printed .ensures .0) (c .before .if1 .left) (c .if2 .taken)
 
 shared-slice-read-if3 : tie.Need-shared-slice-read-if3
 shared-slice-read-if3 c = search needs
@@ -23,13 +23,13 @@ returns-3 : tie.Need-returns-3
 returns-3 c =
     let i = c .before .before in
     let n = i .before .before in
-    name-open (n .before .before .args .f .now) _ (n .printed .ensures) (i .before .if1 .left) (i .if2 .left) (c .if3 .taken)
+    name-open (n .before .before .args .f .now) _ (n .printed .ensures .0) (i .before .if1 .left) (i .if2 .left) (c .if3 .taken)
 
 returns-4 : tie.Need-returns-4
 returns-4 c =
     let i = c .before .before in
     let n = i .before .before in
-    name-good (n .before .before .args .f .now) _ (n .printed .ensures) (i .before .if1 .left) (i .if2 .left) (c .if3 .left)
+    name-good (n .before .before .args .f .now) _ (n .printed .ensures .0) (i .before .if1 .left) (i .if2 .left) (c .if3 .left)
 
 pub name-length-spec : {M : Type 1} → statement M
 name-length-spec =

@@ -14,13 +14,13 @@ returns c =
     let m = c .before in
     (sym (ap judged (judge-quiet (m .before .before .args .s .now) (sym (m .starts-with-magic .ensures .0) ∙ not-true _ (c .if1 .taken)))), refl)
 
-all-fields-requires : tie.Need-all-fields-requires
-all-fields-requires c κs = search needs
+fields-requires : tie.Need-fields-requires
+fields-requires c κs = search needs
 
 returns-2 : tie.Need-returns-2
 returns-2 c =
     let m = c .before .before in
-    (c .all-fields .ensures ∙ sym (ap judged (judge-fields (m .before .before .args .s .now) (sym (m .starts-with-magic .ensures .0) ∙ not-false _ (c .before .if1 .left)))), refl)
+    (c .fields .ensures .0 ∙ sym (ap judged (judge-fields (m .before .before .args .s .now) (sym (m .starts-with-magic .ensures .0) ∙ not-false _ (c .before .if1 .left)))), refl)
 
 pub judge-spec : {M : Type 1} → statement M
-judge-spec = tie.close (tie.spec starts-with-magic-requires returns all-fields-requires returns-2)
+judge-spec = tie.close (tie.spec starts-with-magic-requires returns fields-requires returns-2)

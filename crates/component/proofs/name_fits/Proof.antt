@@ -1,7 +1,7 @@
-use Rattle.component.proofs.Naming.{name-bad, name-rest}
 use mathlib.Core.Path.{refl, _∙_}
 use borrow.Author.Tests.{lt-leb}
 use Rattle.component.specs.Names.{nameTests}
+use Rattle.component.proofs.Naming.{name-bad, name-rest}
 use borrow.Author.Needs.{needs}
 use Rattle.component.proofs.name_fits.Statement.{statement}
 use Rattle.component.proofs.name_fits.Tie as tie
@@ -14,11 +14,14 @@ returns-2 : tie.Need-returns-2
 unfolding nameTests
 returns-2 c = (name-bad (c .before .before .before .args .name .now) 1 (lt-leb _ _ (c .if2 .taken)), refl)
 
-all-printable-requires : tie.Need-all-printable-requires
-all-printable-requires c κs = search needs
+printed-requires : tie.Need-printed-requires
+printed-requires c κs = search needs
 
 returns-3 : tie.Need-returns-3
-returns-3 c = (c .all-printable .ensures ∙ name-rest (c .before .before .before .before .args .name .now) (c .before .before .if1 .left) (c .before .if2 .left), refl)
+returns-3 c =
+    let i = c .before in
+    let n = i .before .before .before .args .name .now in
+    (rw (c .printed .ensures .0) (name-rest n (i .before .if1 .left) (i .if2 .left)), refl)
 
 pub name-fits-spec : {M : Type 1} → statement M
-name-fits-spec = tie.close (tie.spec returns returns-2 all-printable-requires returns-3)
+name-fits-spec = tie.close (tie.spec returns returns-2 printed-requires returns-3)

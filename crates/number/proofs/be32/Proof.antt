@@ -1,46 +1,22 @@
-use mathlib.Core.Path.{refl, sym}
-use Rattle.number.proofs.Digits.{be-past, be-join}
+use native.Mathlib.Omega.{arith}
+use mathlib.Core.Path.{refl, ap, _∙_}
+use Rattle.number.specs.Number.{turned}
+use Rattle.number.proofs.Digits.{turned-be}
 use borrow.Author.Needs.{needs}
 use Rattle.number.proofs.be32.Statement.{statement}
 use Rattle.number.proofs.be32.Tie as tie
 
+le32-requires : tie.Need-le32-requires
+le32-requires c κs = search needs
+
+turned-requires : tie.Need-turned-requires
+turned-requires c κs = search needs
+
 returns : tie.Need-returns
-returns c = (sym (be-past 4 (c .before .before .args .s .now) _ (c .if1 .taken)), refl)
-
-be16-requires : tie.Need-be16-requires
-be16-requires c κs = search needs
-
-cast-result : tie.Need-cast-result
-cast-result c = search needs
-
-mul-result : tie.Need-mul-result
-mul-result c = search needs
-
-add-be16 : tie.Need-add-be16
-add-be16 c = search needs
-
-be16-requires-2 : tie.Need-be16-requires-2
-be16-requires-2 c κs = search needs
-
-cast-result-2 : tie.Need-cast-result-2
-cast-result-2 c = search needs
-
-add-result : tie.Need-add-result
-add-result c = search needs
-
-returns-2 : tie.Need-returns-2
-returns-2 c = let a = c .before .before .before .before .args in (be-join 2 (a .s .now) (a .at) (c .before .be16 .ensures .0) (c .be162 .ensures .0), refl)
+returns c =
+    let k = c .before .before in
+    let a = k .before .args in
+    (c .turned .ensures ∙ ap turned (c .before .le32 .ensures .0) ∙ turned-be (a .s .now) (a .at) (λ j. omega (arith, k .shared-slice-known .given j)), refl)
 
 pub be32-spec : {M : Type 1} → statement M
-be32-spec =
-    tie.close
-    (tie.spec
-    returns
-    be16-requires
-    cast-result
-    mul-result
-    add-be16
-    be16-requires-2
-    cast-result-2
-    add-result
-    returns-2)
+be32-spec = tie.close (tie.spec le32-requires turned-requires returns)
