@@ -2,12 +2,12 @@
 use Prim.Native.Nat.{ℕ}
 use mathlib.Core.Path.{_≡_, refl, sym, _∙_}
 use mathlib.Core.Logic.{inl, inr}
-use mathlib.Core.Bool.{Bool, true, false, cond, not, _||_, true≢false}
+use mathlib.Core.Bool.{Bool, true, false, not, _||_, true≢false}
 use mathlib.Core.List.{List, [], _∷_}
 use lib.ListN.{length, getD}
 use lib.Dec.{leb}
 use borrow.Author.Tests.{leb-true}
-use Rattle.number.specs.Tests.{every, all}
+use Rattle.number.specs.Tests.{every}
 use Rattle.number.proofs.Passing.{passes}
 use Rattle.number.proofs.SameBytes.{eq-true, eq-refl}
 use Rattle.number.specs.Letters.{printed}

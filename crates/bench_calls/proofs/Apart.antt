@@ -23,7 +23,8 @@ use Rattle.master.proofs.Facts.{known, refused-number}
 use Rattle.region.specs.Region.{takenAt, foundAt}
 use Rattle.region.specs.declared.Found.the-variants.{At}
 use Rattle.region.specs.declared.Found.the-variants.{Refused as LookupRefused}
-use Rattle.reading.specs.Reading.{findOf, strictCheck}
+use Rattle.reading.specs.Reading.{strictCheck}
+use Rattle.finding.specs.Finding.{findOf}
 use Rattle.claims.proofs.Accepting.{strict-check-accepts, strict-check-directory}
 use Rattle.bench_calls.specs.Calls.{refusalNumber, countOf, placeOf, strictCount}
 use Rattle.bench_calls.proofs.Stepping.{count-few}

@@ -19,11 +19,12 @@ use Rattle.master.specs.declared.Master.the-variants.{Refused as HeaderRefused}
 use Rattle.master.proofs.Facts.{Known, known, refused-place}
 use Rattle.strict.specs.Strict.{limit, Verdict, verdict, accepted}
 use Rattle.strict.specs.Strict.{refused as refusedAt}
-use Rattle.strict.specs.Directory.{directory}
+use Rattle.checker.specs.Directory.{directory}
 use Rattle.strict.proofs.Verdicts.{no-other, refused-12-lowest}
 use Rattle.region.specs.Region.{foundAt}
 use Rattle.region.specs.declared.Found.the-variants.{Refused as LookupRefused}
-use Rattle.reading.specs.Reading.{findOf, strictCheck}
+use Rattle.reading.specs.Reading.{strictCheck}
+use Rattle.finding.specs.Finding.{findOf}
 
 -- The master header's refusals tell place 0.
 pub header-place : (i : List ℕ) (r : Refusal) → master i ≡ HeaderRefused r → r .place ≡ 0

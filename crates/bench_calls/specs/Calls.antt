@@ -13,10 +13,11 @@ use Rattle.master.specs.declared.Master.{Master}
 use Rattle.master.specs.declared.Master.the-variants.{Read}
 use Rattle.master.specs.declared.Master.the-variants.{Refused as HeaderRefused}
 use Rattle.master.specs.Master.{master}
-use Rattle.strict.specs.declared.Directory.{Directory}
+use Rattle.checker.specs.declared.Directory.{Directory}
 use Rattle.region.specs.declared.Found.{Found}
 use Rattle.region.specs.declared.Found.the-variants.{At, Refused}
-use Rattle.reading.specs.Reading.{findOf, strictCheck}
+use Rattle.reading.specs.Reading.{strictCheck}
+use Rattle.finding.specs.Finding.{findOf}
 
 -- A refusal: its number in the upper 32 bits, the place that it tells in the lower.
 abbrev pub refusalNumber : Refusal → ℕ

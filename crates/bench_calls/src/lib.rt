@@ -9,7 +9,7 @@ ghost use mathlib.Core.Path.{_≡_};
 ghost use Prim.Native.Nat.{_<_};
 ghost use Rattle.master.specs.Master.{master as masterOf};
 ghost use Rattle.master.specs.declared.Master.the-variants.{Read};
-ghost use Rattle.reading.specs.Reading.{findOf};
+ghost use Rattle.finding.specs.Finding.{findOf};
 ghost use Rattle.bench_calls.specs.Calls.{refusalNumber, countOf, plainCount, guardedCount, placeOf, plainPlace, guardedPlace, strictCount};
 
 // A refusal as one number.

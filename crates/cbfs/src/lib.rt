@@ -1,29 +1,29 @@
 // The public face: every call over a whole lent image, and the types of their answers, under one name.
 // Each stands, the calls with their contracts, in the crate that it is passed on from.
+pub use checker::Directory;
 pub use component::Header;
 pub use editing::add;
 pub use editing::remove;
 pub use editing::replace;
 pub use editor::Edited;
+pub use finding::content_at;
+pub use finding::guarded_find;
+pub use finding::guarded_lookup;
+pub use finding::name_at;
+pub use finding::plain_find;
+pub use finding::plain_lookup;
 pub use load::Segment;
 pub use master::Master;
 pub use payload::PayloadPlan;
 pub use planning::payload;
 pub use planning::stage;
-pub use reading::content_at;
-pub use reading::guarded_find;
-pub use reading::guarded_lookup;
 pub use reading::guarded_step;
-pub use reading::name_at;
-pub use reading::plain_find;
-pub use reading::plain_lookup;
 pub use reading::plain_step;
 pub use reading::region;
 pub use reading::strict_check;
 pub use region::Found;
 pub use region::Step;
 pub use stage::StagePlan;
-pub use strict::Directory;
 pub use terms::Refusal;
 pub use terms::Region;
 pub use walk::Taken;

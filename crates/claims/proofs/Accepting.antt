@@ -15,7 +15,7 @@ use Rattle.master.specs.declared.Master.the-variants.{Read, Refused}
 use Rattle.master.proofs.Facts.{refused-number}
 use Rattle.number.specs.Lists.{padded}
 use Rattle.strict.specs.Strict.{limit, Verdict, refused, accepted, placesOf, verdict}
-use Rattle.strict.specs.Directory.{directory}
+use Rattle.checker.specs.Directory.{directory}
 use Rattle.strict.proofs.Verdicts.{accepted-exactly, no-other}
 use Rattle.strict.proofs.Accepting.{walks-agree}
 use Rattle.reading.specs.Reading.{strictCheck}

@@ -28,7 +28,7 @@ use Rattle.editor.proofs.Around.{Around, add-around, replace-around, remove-aro
 use Rattle.region.specs.Region.{takenAt, foundAt}
 use Rattle.region.specs.declared.Found.the-variants.{At}
 use Rattle.region.specs.declared.Found.the-variants.{Refused as FoundRefused}
-use Rattle.reading.specs.Reading.{findOf, contentFoundBy}
+use Rattle.finding.specs.Finding.{findOf, contentFoundBy}
 use Rattle.editing.specs.Editing.{removed}
 use Rattle.claims.specs.Demand3.{AcceptedImage, placed, guardedEntries, inSlots}
 use Rattle.claims.specs.Demand2.{entries, entryAt, FoundThere, Leaves, AddDone, ReplaceDone, RemoveDone}

@@ -17,7 +17,7 @@ use Rattle.stage.specs.Accepted.{AcceptedStage}
 use Rattle.payload.specs.Accepted.{AcceptedPayload}
 use Rattle.stage.proofs.Theorems as Stage
 use Rattle.payload.proofs.Theorems as Payload
-use Rattle.reading.specs.Reading.{guardedFind, guardedContent}
+use Rattle.finding.specs.Finding.{guardedFind, guardedContent}
 use Rattle.planning.specs.Planning.{planOn, stage, payload}
 
 -- What the number of an answer tells, for plans A of either kind.

@@ -22,7 +22,7 @@ use Rattle.master.specs.declared.Master.the-variants.{Read}
 use Rattle.master.proofs.Facts.{known, same-region}
 use Rattle.region.specs.Region.{takenAt, foundAt, contentFound}
 use Rattle.region.specs.declared.Found.the-variants.{At, Refused}
-use Rattle.reading.specs.Reading.{guardedFind, guardedContent}
+use Rattle.finding.specs.Finding.{guardedFind, guardedContent}
 use Rattle.claims.specs.Demand3.{placed, guardedEntries, inSlots, fromSlots, Spoiled, rivalled, Demand3}
 use Rattle.claims.proofs.Images.{map-mem, keep-map, any-map, bytes-length, same-bytes, slot-inner, same-told, through}
 use Rattle.claims.proofs.Theorems.{guarded-listing-is-steps}

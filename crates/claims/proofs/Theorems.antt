@@ -22,7 +22,8 @@ use Rattle.region.specs.declared.Found.the-variants.{At}
 use Rattle.region.specs.declared.Found.the-variants.{Refused as FoundRefused}
 use Rattle.region.proofs.Numbers as Numbers
 use Rattle.region.proofs.Listing as Listing
-use Rattle.reading.specs.Reading.{stepOn, stepOf, plainStep, guardedStep, plainFind, plainContent}
+use Rattle.reading.specs.Reading.{stepOn, stepOf, plainStep, guardedStep}
+use Rattle.finding.specs.Finding.{plainFind, plainContent}
 
 -- An image i that is read, and its region g.
 module _ (i : List ℕ) (g : Region) (read : master i ≡ Read g) where

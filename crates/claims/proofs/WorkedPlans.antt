@@ -15,9 +15,9 @@ use Rattle.lookup.specs.Lookup.{bears, only}
 use Rattle.terms.specs.Terms.{bytesOf}
 use Rattle.terms.specs.Refusals.{lengthFits}
 use Rattle.master.specs.Master.{headerAt, addressFits, bootblockFits, alignFits, offsetFits, tests, refusal, master}
-use Rattle.load.specs.Fits.{sourceFits, lenFits, targetFits, loadTests}
+use Rattle.load.specs.Fits.{sourceFits, lenFits, targetFits, loadTests, endsBefore, apart}
 use Rattle.stage.specs.Stage.{stageTests, stageAnswer, stageOf, stageIn}
-use Rattle.payload.specs.Payload.{codeType, entryType, segmentAt, bssTests, paramsTests, typeTests, recordTests, endsBefore, apart, clear, turnTests, segmentsFrom, payloadTests, unused, planOf, refusedPayload, payloadAnswer, payloadOf, payloadIn}
+use Rattle.payload.specs.Payload.{codeType, entryType, segmentAt, bssTests, paramsTests, typeTests, recordTests, clear, turnTests, segmentsFrom, payloadTests, unused, planOf, refusedPayload, payloadAnswer, payloadOf, payloadIn}
 use Rattle.load.proofs.Bench.{named}
 use Rattle.stage.proofs.Worked.{header}
 use Rattle.payload.proofs.Worked.{code, entry}

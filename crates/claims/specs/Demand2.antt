@@ -15,7 +15,8 @@ use Rattle.master.specs.declared.Master.the-variants.{Read}
 use Rattle.edit.specs.Edit.{spanBytes, putIn, instead, without, made, Free}
 use Rattle.editor.specs.declared.Edited.the-variants.{Done}
 use Rattle.region.specs.declared.Found.the-variants.{At, Refused}
-use Rattle.reading.specs.Reading.{findOf, contentFoundBy, strictCheck}
+use Rattle.reading.specs.Reading.{strictCheck}
+use Rattle.finding.specs.Finding.{findOf, contentFoundBy}
 use Rattle.editing.specs.Editing.{removed}
 use Rattle.claims.specs.Demand3.{placed, guardedEntries, inSlots}
 

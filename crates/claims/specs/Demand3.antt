@@ -16,7 +16,8 @@ use Rattle.terms.specs.Terms.{bytesOf, refusedBy}
 use Rattle.terms.specs.declared.Region.{Region}
 use Rattle.region.specs.Region.{takenAt, Walked}
 use Rattle.region.specs.declared.Found.the-variants.{Refused}
-use Rattle.reading.specs.Reading.{guardedStep, guardedFind, guardedContent}
+use Rattle.reading.specs.Reading.{guardedStep}
+use Rattle.finding.specs.Finding.{guardedFind, guardedContent}
 
 -- "Take any image that the strict check accepts": its region, and that the check accepts it.
 pub record AcceptedImage (i : List ℕ) (g : Region) : Type 0 where

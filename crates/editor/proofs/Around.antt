@@ -14,10 +14,10 @@ use Rattle.terms.proofs.Regions.{bytes-inside, bytes-fit}
 use Rattle.strict.specs.Strict.{limit}
 use Rattle.edit.specs.Edit.{Bytes, Run, filled, Decision, refuse, write, toAdd, toReplace, toRemove, Reply, refusal, done, Outcome, carriedOut, add, replace, remove}
 use Rattle.room.specs.Room.{run}
-use Rattle.editor.specs.Code.{kindOf}
+use Rattle.decide.specs.Code.{kindOf}
 use Rattle.editor.specs.Image.{answerOf, inImage, addIn, replaceIn, removeIn}
 use Rattle.edit.proofs.Written.{length-span, filled-length, filled-before, filled-after, filled-part}
-use Rattle.editor.proofs.Choosing.{add-ready, replace-ready, remove-ready}
+use Rattle.decide.proofs.Choosing.{add-ready, replace-ready, remove-ready}
 use Rattle.editor.specs.declared.Edited.the-variants.{Done, Refused}
 use Rattle.edit.proofs.Outcomes.{Replaced, Removed}
 use Rattle.edit.proofs.Theorems.{replace-done, remove-done}

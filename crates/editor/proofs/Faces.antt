@@ -12,13 +12,13 @@ use Rattle.terms.proofs.Regions.{bytes-inside}
 use Rattle.strict.specs.Strict.{limit}
 use Rattle.edit.specs.Edit.{Run, offsetFor, spanBytes, Decision, write, toAdd, toReplace, toRemove, carriedOut, add, replace, remove}
 use Rattle.room.specs.Room.{spaceOf}
-use Rattle.editor.specs.Code.{kindOf, choice}
+use Rattle.decide.specs.Code.{kindOf, choice}
 use Rattle.editor.specs.Image.{Result, inImage, addIn, replaceIn, removeIn}
 use Rattle.room.specs.declared.Space.{Space}
-use Rattle.editor.specs.declared.Choice.the-variants.{Write}
+use Rattle.decide.specs.declared.Choice.the-variants.{Write}
 use Rattle.editor.specs.declared.Edited.the-variants.{Done}
 use Rattle.edit.proofs.Written.{length-span}
-use Rattle.editor.proofs.Choosing.{Ready, choice-write, add-ready, replace-ready, remove-ready}
+use Rattle.decide.proofs.Choosing.{Ready, choice-write, add-ready, replace-ready, remove-ready}
 use Rattle.editor.proofs.Writing.{edit-done}
 
 -- A slot z that a component is written to, and the result o.

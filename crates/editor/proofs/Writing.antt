@@ -18,11 +18,11 @@ use Rattle.terms.specs.declared.Refusal.{Refusal}
 use Rattle.terms.proofs.Regions.{bytes-inside, bytes-fit}
 use lib.Dec.{eqb}
 use Rattle.edit.specs.Edit.{headerBytes, fieldBytes, spanBytes, offsetFor, fieldSize, Run, filled, Decision, refuse, write, carriedOut}
-use Rattle.editor.specs.Code.{choice}
+use Rattle.decide.specs.Code.{choice}
 use Rattle.editor.specs.Image.{inImage}
-use Rattle.editor.specs.declared.Choice.the-variants.{Refuse}
+use Rattle.decide.specs.declared.Choice.the-variants.{Refuse}
 use Rattle.editor.specs.declared.Edited.the-variants.{Done, Refused}
-use Rattle.editor.proofs.Choosing.{choice-refuse}
+use Rattle.decide.proofs.Choosing.{choice-refuse}
 
 -- A write that fits.
 written-fits : (d : List ℕ) (at : ℕ) (ys : List ℕ) → at + length ys ≤ length d → written d at ys ≡ splice d at ys

@@ -14,7 +14,7 @@ use Rattle.terms.proofs.Orders.{all-passed, first-both}
 use Rattle.area.specs.declared.Area.{Area}
 use Rattle.area.specs.Names.{nameFits}
 use Rattle.area.specs.Area.{unused, sameName, extentFits, cross, holdsMap, areaTests}
-use Rattle.fmap.specs.Signatures.{signatures, firstOr}
+use Rattle.signature.specs.Signatures.{signatures, firstOr}
 use Rattle.fmap.specs.Fmap.{placeOf, areaOf, nareas, mapEnd, areasOf, most, signatureTests, headerTests, turnTests, wholeTests, testsAt, tests, mapOf, refused, answer, fmapBy, fmap}
 use Rattle.fmap.specs.declared.Map.{Map}
 use Rattle.fmap.proofs.Counting.{areas-length}

@@ -1,4 +1,3 @@
-pub mod Signing
 pub mod Counting
 pub mod Reading
 pub mod Accepting

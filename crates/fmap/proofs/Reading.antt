@@ -14,10 +14,10 @@ use Rattle.terms.specs.Refusals.{Test, test, firstFailed, lengthFits}
 use Rattle.terms.proofs.Orders.{numbered, all-passed, first-here, first-later, first-both}
 use Rattle.area.specs.declared.Area.{Area}
 use Rattle.area.specs.Area.{unused, sameName, cross, holdsMap, areaTests}
-use Rattle.fmap.specs.Signatures.{signatures, found}
+use Rattle.signature.specs.Signatures.{signatures, found}
 use Rattle.fmap.specs.Fmap.{minor, base, nareas, mapEnd, areasAt, areasOf, most, countFits, signatureTests, headerTests, turnTests, wholeTests, testsAt, tests, mapOf, refused, answer, mapAt, fmapBy, fmap}
 use Rattle.fmap.specs.declared.Map.{Map}
-use Rattle.fmap.specs.declared.Found.the-variants.{Nothing, At, Several}
+use Rattle.signature.specs.declared.Found.the-variants.{Nothing, At, Several}
 
 -- The map, field by field.
 pub map-fields : (s : List ℕ) (at : ℕ) {c m b : ℕ} {l : List Area} → c ≡ nareas s at → m ≡ minor s at → b ≡ base s at → l ≡ padded most unused (areasAt s c (at + 56))

@@ -13,9 +13,9 @@ use Rattle.terms.specs.Refusals.{firstFailed}
 use Rattle.area.specs.Names.{nameAt, Fit}
 use Rattle.area.specs.Area.{unused, sameName, cross, holdsMap, Inside, ApartOrNested, Own}
 use Rattle.area.proofs.Facts.{extent, fit, turned, uncrossed, own, differing}
-use Rattle.fmap.specs.Signatures.{signature, signed, signedAt, signaturesFrom, signatures}
+use Rattle.signature.specs.Signatures.{signature, signed, signedAt, signaturesFrom, signatures}
 use Rattle.fmap.specs.Fmap.{placeOf, areaOf, nareas, mapEnd, tests, refused, fmapBy, fmap}
-use Rattle.fmap.proofs.Signing.{signs-sound, signs-complete}
+use Rattle.signature.proofs.Signing.{signs-sound, signs-complete}
 use Rattle.fmap.proofs.Counting.{areas-length}
 use Rattle.fmap.proofs.Reading.{headed}
 use Rattle.fmap.proofs.Accepting.{areas, nth, answered, accepted, count-is, long, area-is, area-past, each, wholes}

@@ -13,7 +13,7 @@ use Rattle.terms.specs.Refusals.{lengthFits}
 use Rattle.number.specs.Letters.{printed}
 use Rattle.area.specs.Names.{nameTests, nameFits, nameOf}
 use Rattle.area.specs.Area.{areaAt, unused, bears, extentFits, disjoint, holds, cross, ownName, ownTests, holdsMap, areaTests}
-use Rattle.fmap.specs.Signatures.{signature, signed, signedAt, placesFrom, signaturesAt, signaturesFrom}
+use Rattle.signature.specs.Signatures.{signature, signed, signedAt, placesFrom, signaturesAt, signaturesFrom}
 use Rattle.fmap.specs.Fmap.{areasAt, countFits, signatureTests, headerTests, turnTests, wholeTests, testsAt, tests, mapOf, refused, answer, fmapBy, fmap}
 
 -- Of 001's two numbers for the signature, this is the little-endian one.

@@ -11,7 +11,7 @@ use Rattle.number.specs.Lists.{any, noTwo, padded}
 use Rattle.terms.specs.Refusals.{Test, test, firstFailed, lengthFits}
 use Rattle.area.specs.declared.Area.{Area}
 use Rattle.area.specs.Area.{areaAt, unused, sameName, cross, holdsMap, areaTests}
-use Rattle.fmap.specs.Signatures.{signatures, firstOr}
+use Rattle.signature.specs.Signatures.{signatures, firstOr}
 use Rattle.fmap.specs.declared.Map.{Map}
 
 -- The header, 56 bytes: signature, major, minor, base, size, name, nareas. The header's own name is not read.

@@ -1,2 +1,1 @@
-pub mod Signatures
 pub mod Fmap

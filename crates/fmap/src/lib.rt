@@ -1,5 +1,9 @@
-// The flash map reader (document 01, "Flash map"): the signatures in a run of bytes; the map at a place, judged against a length; the reader, which joins the two.
+// The flash map reader (document 01, "Flash map"): the map at a place, judged against a length; and the reader, which joins it with the signatures of the crate `signature`.
 use area::Area;
+use signature::Found;
+
+// The signatures by themselves, as a part of the reader.
+pub use signature::signatures;
 ghost use mathlib.Core.Path.{_≡_};
 ghost use Prim.Native.Nat.{_+_, _*_, _≤_};
 ghost use lib.ListN.{length};
@@ -8,7 +12,6 @@ ghost use Rattle.number.specs.Lists.{any, noTwo, padded};
 ghost use Rattle.terms.specs.Refusals.{firstFailed};
 ghost use Rattle.area.specs.Names.{nameAt};
 ghost use Rattle.area.specs.Area.{unused, bears, sameName, cross, holdsMap};
-ghost use Rattle.fmap.specs.Signatures.{signed as signedOf, signatures as signaturesOf, signaturesFrom, firstOr, found};
 ghost use Rattle.fmap.specs.Fmap.{areasAt, areasOf, most, countFits, mapEnd, nareas, headerTests, turnTests, wholeTests, testsAt, mapOf, refused as refusedOf, mapAt, fmap};
 
 // How many areas a map may have.
@@ -23,56 +26,6 @@ pub struct Map {
     pub base: u64,
     pub count: usize,
     pub areas: [Area; MOST],
-}
-
-// The signatures in a run of bytes: none, one and its place, or several.
-pub enum Found {
-    Nothing,
-    At(usize),
-    Several,
-}
-
-// The bytes begin with the signature.
-fn signed(s: &[u8]) -> bool
-    ensures { λ r. ⌜ r ≡ signedOf (now (s .entry)) ⌝ }
-{
-    if s.len() < 8 {
-        return false;
-    }
-    number::equal(&s[0..8], b"__FMAP__")
-}
-
-// The first signature at `from`, `from` + 64 and so on, or else the length.
-fn next_signature(s: &[u8], from: usize) -> usize
-    ensures { λ r. ⌜ r ≡ firstOr (length (now (s .entry))) (signaturesFrom (now (s .entry)) from) ⌝ }
-{
-    if s.len() < 8 {
-        return s.len();
-    }
-    let stop = s.len() - 7;
-    let mut p = from;
-    while p < stop {
-        if signed(&s[p..p + 8]) {
-            return p;
-        }
-        p += 64;
-    }
-    s.len()
-}
-
-// The signatures at multiples of 64: the search for a second one goes on where the first was found.
-pub fn signatures(s: &[u8]) -> Found
-    ensures { λ r. ⌜ r ≡ found (signaturesOf (now (s .entry))) ⌝ }
-    ensures kept { λ _. ⌜ now (s .exit) ≡ now (s .entry) ⌝ }
-{
-    let p = next_signature(s, 0);
-    if s.len() <= p {
-        return Found::Nothing;
-    }
-    if next_signature(s, p + 64) < s.len() {
-        return Found::Several;
-    }
-    Found::At(p)
 }
 
 // An area's name, as a part of the image; empty where its record's place holds no fit name.

@@ -1,7 +1,7 @@
--- What stages and payloads share: the component that a plan is of, and tests 22 to 25 (document 01, "Load plans" and "Refusal numbers").
+-- What stages and payloads share: the component that a plan is of, and tests 22 to 26 (document 01, "Load plans" and "Refusal numbers").
 use Prim.Native.Nat.{ℕ, _+_, _^_}
 use mathlib.Core.List.{List, [], _∷_}
-use mathlib.Core.Bool.{Bool, true, cond}
+use mathlib.Core.Bool.{Bool, true, cond, _||_}
 use lib.Dec.{leb, eqb}
 use Rattle.number.specs.Tests.{every}
 use Rattle.terms.specs.Refusals.{Test, test}
@@ -44,3 +44,11 @@ loadTests at l x =
     ∷ test 24 (lenFits (x .compression) (x .len) (x .memlen))
     ∷ test 25 (targetFits (x .load) (x .memlen))
     ∷ []
+
+-- The target of x ends where that of y begins, or before it.
+unfoldable pub endsBefore : Segment → Segment → Bool
+endsBefore x y = leb (x .load + x .memlen) (y .load)
+
+-- 26: two targets share no byte. A target of 0 bytes, which PARAMS and ENTRY have too, overlaps nothing.
+unfoldable pub apart : Segment → Segment → Bool
+apart x y = eqb (x .memlen) 0 || (eqb (y .memlen) 0 || (endsBefore x y || endsBefore y x))

@@ -1,8 +1,8 @@
-// What stage plans and payload plans share: what is loaded, and tests 22 to 25 of it (document 01, "Load plans" and "Refusal numbers").
+// What stage plans and payload plans share: what is loaded, and tests 22 to 26 of it (document 01, "Load plans" and "Refusal numbers").
 // Every function takes any numbers.
 ghost use mathlib.Core.Path.{_≡_};
 ghost use Rattle.terms.specs.Refusals.{firstFailed};
-ghost use Rattle.load.specs.Fits.{sourceFits, lenFits, targetFits, loadTests};
+ghost use Rattle.load.specs.Fits.{sourceFits, lenFits, targetFits, loadTests, apart as apartOf};
 
 // What is loaded, a stage's binary or a segment of a payload: the len bytes at the place `source` of the image are for the address `load`, where memlen bytes are theirs.
 // Fields that a segment's type does not use are 0, and so is the type of a stage's binary.
@@ -74,4 +74,26 @@ pub fn load_refusal(at: usize, len: usize, x: Segment) -> u32
         return 25;
     }
     0
+}
+
+// Test 26 of two targets: they share no byte.
+pub fn apart(a: Segment, b: Segment) -> bool
+    ensures { λ r. ⌜ r ≡ apartOf a b ⌝ }
+{
+    if a.memlen == 0 {
+        return true;
+    }
+    if b.memlen == 0 {
+        return true;
+    }
+    if a.load <= b.load {
+        if b.load - a.load < a.memlen as u64 {
+            return false;
+        }
+        return true;
+    }
+    if a.load - b.load < b.memlen as u64 {
+        return false;
+    }
+    true
 }

@@ -10,8 +10,8 @@ use lib.Seq.{getD-append-seam}
 use lib.Dec.{leb, eqb}
 use borrow.Author.Tests.{leb-true, eqb-true}
 use Rattle.terms.specs.Refusals.{Test, test, firstFailed}
-use Rattle.load.specs.Fits.{loadTests}
-use Rattle.payload.specs.Payload.{typeAt, codeType, dataType, bssType, paramsType, entryType, loadedAt, bssAt, paramsAt, entryAt, unknownAt, segmentAt, bssTests, paramsTests, typeTests, recordTests, apart, clear, ends, turnTests, segmentsFrom, unused, endsBefore}
+use Rattle.load.specs.Fits.{loadTests, apart, endsBefore}
+use Rattle.payload.specs.Payload.{typeAt, codeType, dataType, bssType, paramsType, entryType, loadedAt, bssAt, paramsAt, entryAt, unknownAt, segmentAt, bssTests, paramsTests, typeTests, recordTests, clear, ends, turnTests, segmentsFrom, unused}
 use Rattle.payload.specs.Accepted.{Loaded, HasSource, HasTarget, Target}
 use Rattle.load.specs.declared.Segment.{Segment}
 use Rattle.terms.proofs.Orders.{all-passed, first-both}

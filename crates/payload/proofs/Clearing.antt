@@ -7,7 +7,8 @@ use mathlib.Core.Bool.{Bool, true, false}
 use mathlib.Core.List.{List, _∷_}
 use lib.ListN.{length, take, drop, getD, length-take, drop-of-length-le}
 use lib.Seq.{drop-cons, getD-take}
-use Rattle.payload.specs.Payload.{unused, apart, clear}
+use Rattle.payload.specs.Payload.{unused, clear}
+use Rattle.load.specs.Fits.{apart}
 use Rattle.load.specs.declared.Segment.{Segment}
 
 -- The segments from the i-th on, of the first n of l; x was read there, and b is what was answered of it.

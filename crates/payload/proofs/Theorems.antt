@@ -18,11 +18,11 @@ use Rattle.terms.proofs.Orders.{all-passed, first-both}
 use Rattle.walk.specs.declared.Taken.{Taken}
 use Rattle.region.specs.Region.{findIn, contentIn}
 use Rattle.region.specs.declared.Found.the-variants.{At}
-use Rattle.load.specs.Fits.{contentPlace}
+use Rattle.load.specs.Fits.{contentPlace, apart}
 use Rattle.load.specs.declared.Segment.{Segment}
 use Rattle.load.proofs.Finding.{Located, located, inside}
 use Rattle.load.proofs.Answering.{accepted, refused, found-plan, refusal-zero}
-use Rattle.payload.specs.Payload.{typeAt, origin, segmentAt, typeTests, apart, most, turnTests, segmentsFrom, payloadTests, unused, planOf, refusedPayload, payloadAnswer, payloadOf, payloadIn}
+use Rattle.payload.specs.Payload.{typeAt, origin, segmentAt, typeTests, most, turnTests, segmentsFrom, payloadTests, unused, planOf, refusedPayload, payloadAnswer, payloadOf, payloadIn}
 use Rattle.payload.specs.Accepted.{segmentOf, Target, AcceptedPayload}
 use Rattle.payload.specs.declared.PayloadPlan.{PayloadPlan}
 use Rattle.payload.proofs.Accepting.{source-fit, target-fit, memory-fit, known, kind-is, no-target, no-source, Run, run, from-most, Nth, nth, ending, pairwise, apart-in}

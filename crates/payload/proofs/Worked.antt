@@ -14,9 +14,9 @@ use Rattle.component.specs.Component.{magic, startsWithMagic, componentOf, head
 use Rattle.walk.specs.Walk.{placesBelow, places, carries, buried, unless, guarded, orElse, first, step, onward, follow, steps, listingFrom}
 use Rattle.lookup.specs.Lookup.{bears, only}
 use Rattle.terms.specs.Terms.{bytesOf}
-use Rattle.load.specs.Fits.{sourceFits, lenFits, targetFits, loadTests}
+use Rattle.load.specs.Fits.{sourceFits, lenFits, targetFits, loadTests, endsBefore, apart}
 use Rattle.load.proofs.Bench.{component, image, twice, region}
-use Rattle.payload.specs.Payload.{codeType, dataType, bssType, paramsType, entryType, segmentAt, bssTests, paramsTests, typeTests, recordTests, endsBefore, apart, clear, turnTests, segmentsFrom, payloadTests, unused, planOf, refusedPayload, payloadAnswer, payloadOf, payloadIn}
+use Rattle.payload.specs.Payload.{codeType, dataType, bssType, paramsType, entryType, segmentAt, bssTests, paramsTests, typeTests, recordTests, clear, turnTests, segmentsFrom, payloadTests, unused, planOf, refusedPayload, payloadAnswer, payloadOf, payloadIn}
 use Rattle.payload.specs.declared.PayloadPlan.{PayloadPlan}
 
 -- The types as bytes in flash: CODE, DATA, "BSS ", PARA and ENTR.

@@ -2,7 +2,7 @@
 -- The content begins at the place `at` of the image; offsets are counted from the place o.
 use Prim.Native.Nat.{ℕ, zero, suc, _+_}
 use mathlib.Core.List.{List, [], _∷_, _++_}
-use mathlib.Core.Bool.{Bool, true, false, cond, _||_}
+use mathlib.Core.Bool.{Bool, true, false, cond}
 use lib.ListN.{length}
 use lib.Dec.{leb, eqb}
 use Rattle.number.specs.Number.{be, le}
@@ -13,7 +13,7 @@ use Rattle.terms.specs.declared.Refusal.{Refusal}
 use Rattle.terms.specs.declared.Region.{Region}
 use Rattle.walk.specs.declared.Taken.{Taken}
 use Rattle.region.specs.Region.{findIn, contentIn}
-use Rattle.load.specs.Fits.{contentPlace, planFor, compressionFits, sourceFits, targetFits, loadTests}
+use Rattle.load.specs.Fits.{contentPlace, planFor, compressionFits, sourceFits, targetFits, loadTests, apart}
 use Rattle.load.specs.declared.Segment.{Segment}
 use Rattle.payload.specs.declared.PayloadPlan.{PayloadPlan}
 use Rattle.payload.specs.declared.Judged.{Judged}
@@ -108,15 +108,7 @@ recordTests s at o p = test 19 (leb (p + 28) (length s)) ∷ typeTests at (lengt
 abbrev pub judgedBy : ℕ → Segment → Judged
 judgedBy n x = cond (eqb n 0) (Fits x) (Refused n)
 
--- The target of x ends where that of y begins, or before it.
-unfoldable pub endsBefore : Segment → Segment → Bool
-endsBefore x y = leb (x .load + x .memlen) (y .load)
-
--- 26: two targets share no byte. A target of 0 bytes, which PARAMS and ENTRY have too, overlaps nothing.
-unfoldable pub apart : Segment → Segment → Bool
-apart x y = eqb (x .memlen) 0 || (eqb (y .memlen) 0 || (endsBefore x y || endsBefore y x))
-
--- The target of y and those of the segments xs share no byte.
+-- 26: the target of y and those of the segments xs share no byte.
 unfoldable pub clear : Segment → List Segment → Bool
 clear y [] = true
 clear y (x ∷ xs) = cond (apart x y) (clear y xs) false

@@ -11,7 +11,7 @@ ghost use lib.ListN.{length, take};
 ghost use Rattle.number.specs.Bytes.{partOf};
 ghost use Rattle.terms.specs.Refusals.{firstFailed};
 ghost use Rattle.load.specs.Fits.{contentPlace};
-ghost use Rattle.payload.specs.Payload.{origin as originOf, loadedAt, bssAt, paramsAt, entryAt, segmentAt, bssTests, paramsTests, recordTests, judgedBy, apart as apartOf, clear as clearOf, unused as unusedOf, refusedPayload, recordsPlan, payloadOf, payloadIn};
+ghost use Rattle.payload.specs.Payload.{origin as originOf, loadedAt, bssAt, paramsAt, entryAt, segmentAt, bssTests, paramsTests, recordTests, judgedBy, clear as clearOf, unused as unusedOf, refusedPayload, recordsPlan, payloadOf, payloadIn};
 
 // How many segments a plan holds.
 const MOST: usize = 16;
@@ -48,28 +48,6 @@ fn origin(t: Taken) -> usize
     t.place
 }
 
-// Test 26 of two targets.
-fn apart(a: Segment, b: Segment) -> bool
-    ensures { λ r. ⌜ r ≡ apartOf a b ⌝ }
-{
-    if a.memlen == 0 {
-        return true;
-    }
-    if b.memlen == 0 {
-        return true;
-    }
-    if a.load <= b.load {
-        if b.load - a.load < a.memlen as u64 {
-            return false;
-        }
-        return true;
-    }
-    if a.load - b.load < b.memlen as u64 {
-        return false;
-    }
-    true
-}
-
 // Test 26 of a segment after the first n of `all`.
 fn clear(all: [Segment; MOST], n: usize, x: Segment) -> bool
     requires { ⌜ n ≤ 16 ⌝ }
@@ -78,7 +56,7 @@ fn clear(all: [Segment; MOST], n: usize, x: Segment) -> bool
     let mut i = 0;
     while i < n {
         let y = all[i];
-        if !apart(y, x) {
+        if !load::apart(y, x) {
             return false;
         }
         i += 1;

@@ -1,34 +1,24 @@
 -- What is read of a whole image i: the master header, refusals 1 to 8, and then the call over its region.
 use Prim.Native.Nat.{ℕ}
 use mathlib.Core.Bool.{Bool, true, false}
-use mathlib.Core.List.{List, []}
+use mathlib.Core.List.{List}
 use Rattle.terms.specs.Terms.{bytesOf}
 use Rattle.terms.specs.declared.Region.{Region}
 use Rattle.master.specs.Master.{master}
 use Rattle.master.specs.declared.Master.{Master}
 use Rattle.master.specs.declared.Master.the-variants.{Read, Refused}
 use Rattle.strict.specs.Strict.{limit, verdict}
-use Rattle.strict.specs.Directory.{refusal, directory}
-use Rattle.strict.specs.declared.Directory.{Directory}
-use Rattle.region.specs.Region.{stepIn, findIn, contentIn, nameAt as nameIn, contentAt as contentAtIn}
+use Rattle.checker.specs.Directory.{refusal, directory}
+use Rattle.checker.specs.declared.Directory.{Directory}
+use Rattle.region.specs.Region.{stepIn}
 use Rattle.region.specs.declared.Step.{Step}
 use Rattle.region.specs.declared.Step.the-variants.{Refused as StepRefused}
-use Rattle.region.specs.declared.Found.{Found}
-use Rattle.region.specs.declared.Found.the-variants.{Refused as FoundRefused}
 
 -- The call over the region, or the master header's refusal.
 
 abbrev pub stepOn : Master → (Region → Step) → Step
 stepOn (Read g) call = call g
 stepOn (Refused r) call = StepRefused r
-
-abbrev pub findOn : Master → (Region → Found) → Found
-findOn (Read g) call = call g
-findOn (Refused r) call = FoundRefused r
-
-abbrev pub partOn : Master → (Region → List ℕ) → List ℕ
-partOn (Read g) call = call g
-partOn (Refused r) call = []
 
 abbrev pub checkOn : Master → (Region → Directory) → Directory
 checkOn (Read g) call = call g
@@ -44,34 +34,6 @@ plainStep i n = stepOf false i n
 
 abbrev pub guardedStep : List ℕ → ℕ → Step
 guardedStep i n = stepOf true i n
-
--- A lookup: refusals 1 to 8, then 10, and 11 for the guarded one; and the content that it gives, empty on a refusal.
-
-abbrev pub findOf : Bool → List ℕ → List ℕ → Found
-findOf w i name = findOn (master i) (λ g. findIn w i g name)
-
-abbrev pub plainFind : List ℕ → List ℕ → Found
-plainFind i name = findOf false i name
-
-abbrev pub guardedFind : List ℕ → List ℕ → Found
-guardedFind i name = findOf true i name
-
-abbrev pub contentFoundBy : Bool → List ℕ → List ℕ → List ℕ
-contentFoundBy w i name = partOn (master i) (λ g. contentIn w i g name)
-
-abbrev pub plainContent : List ℕ → List ℕ → List ℕ
-plainContent i name = contentFoundBy false i name
-
-abbrev pub guardedContent : List ℕ → List ℕ → List ℕ
-guardedContent i name = contentFoundBy true i name
-
--- The name and the content of the component at a place; empty where none stands there, or the image is refused.
-
-abbrev pub nameAt : List ℕ → ℕ → List ℕ
-nameAt i p = partOn (master i) (λ g. nameIn i g p)
-
-abbrev pub contentAt : List ℕ → ℕ → List ℕ
-contentAt i p = partOn (master i) (λ g. contentAtIn i g p)
 
 -- The strict check: refusals 1 to 8, then 12, 13, 11; else the directory.
 abbrev pub strictCheck : List ℕ → Directory

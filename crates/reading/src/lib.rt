@@ -1,12 +1,10 @@
-// The calls that read a whole lent image, by its master header: the region, steps, lookups, names and contents, and the strict check.
-// No call asks anything of its caller. The face `cbfs` passes them on.
+// The calls that walk over a whole lent image, by its master header: the region, the steps and the strict check. No call asks anything of its caller. The face `cbfs` passes them on.
+use checker::Directory;
 use master::Master;
-use region::Found;
 use region::Step;
-use strict::Directory;
 ghost use mathlib.Core.Path.{_≡_};
 ghost use Rattle.master.specs.Master.{master as masterOf};
-ghost use Rattle.reading.specs.Reading.{stepOf, plainStep, guardedStep, findOf, plainFind, guardedFind, contentFoundBy, plainContent, guardedContent, nameAt, contentAt, strictCheck};
+ghost use Rattle.reading.specs.Reading.{stepOf, plainStep, guardedStep, strictCheck};
 
 // The region that holds the image's components, or refusals 1 to 8.
 pub fn region(image: &[u8]) -> Master
@@ -16,7 +14,7 @@ pub fn region(image: &[u8]) -> Master
     master::read(image)
 }
 
-// A step of either walk. Here and in the lookups the image is lent on as `&image[0..]`: lent on as it came, it would be copied in one piece
+// A step of either walk. Here and in the crate `finding` the image is lent on as `&image[0..]`: lent on as it came, it would be copied in one piece
 // just after it was stored in two, and the processor waits for that, some 20 ns a call.
 fn step_of(guarded: bool, image: &[u8], from: usize) -> Step
     ensures { λ s. ⌜ s ≡ stepOf guarded (now (image .entry)) from ⌝ }
@@ -44,84 +42,6 @@ pub fn guarded_step(image: &[u8], from: usize) -> Step
     step_of(true, image, from)
 }
 
-// The lookup of either walk.
-fn find_of(guarded: bool, image: &[u8], name: &[u8]) -> Found
-    ensures { λ f. ⌜ f ≡ findOf guarded (now (image .entry)) (now (name .entry)) ⌝ }
-{
-    let m = master::read(&image[0..]);
-    match m {
-        Master::Read(g) => region::find_in(guarded, image, g, name),
-        Master::Refused(r) => Found::Refused(r),
-    }
-}
-
-// The first bearer of the name in the plain listing, or refusals 1 to 8 and 10.
-pub fn plain_find(image: &[u8], name: &[u8]) -> Found
-    ensures { λ f. ⌜ f ≡ plainFind (now (image .entry)) (now (name .entry)) ⌝ }
-    ensures kept { λ _. ⌜ (now (image .exit) ≡ now (image .entry)) × (now (name .exit) ≡ now (name .entry)) ⌝ }
-{
-    find_of(false, image, name)
-}
-
-// The only bearer of the name in the guarded listing, or refusals 1 to 8, 10 and 11.
-pub fn guarded_find(image: &[u8], name: &[u8]) -> Found
-    ensures { λ f. ⌜ f ≡ guardedFind (now (image .entry)) (now (name .entry)) ⌝ }
-    ensures kept { λ _. ⌜ (now (image .exit) ≡ now (image .entry)) × (now (name .exit) ≡ now (name .entry)) ⌝ }
-{
-    find_of(true, image, name)
-}
-
-// The content that the lookup of either walk gives.
-fn lookup_of<'a, 'b>(guarded: bool, image: &'a [u8], name: &'b [u8]) -> &'a [u8]
-    ensures { λ r. ⌜ now r ≡ contentFoundBy guarded (now (image .entry)) (now (name .entry)) ⌝ }
-{
-    let m = master::read(&image[0..]);
-    match m {
-        Master::Read(g) => region::lookup_in(guarded, image, g, name),
-        Master::Refused(_) => &image[0..0],
-    }
-}
-
-// The content of the first bearer of the name, as a part of the image; empty on a refusal.
-pub fn plain_lookup<'a, 'b>(image: &'a [u8], name: &'b [u8]) -> &'a [u8]
-    ensures { λ r. ⌜ now r ≡ plainContent (now (image .entry)) (now (name .entry)) ⌝ }
-    ensures kept { λ _. ⌜ (now (image .exit) ≡ now (image .entry)) × (now (name .exit) ≡ now (name .entry)) ⌝ }
-{
-    lookup_of(false, image, name)
-}
-
-// The content of the only bearer of the name, as a part of the image; empty on a refusal.
-pub fn guarded_lookup<'a, 'b>(image: &'a [u8], name: &'b [u8]) -> &'a [u8]
-    ensures { λ r. ⌜ now r ≡ guardedContent (now (image .entry)) (now (name .entry)) ⌝ }
-    ensures kept { λ _. ⌜ (now (image .exit) ≡ now (image .entry)) × (now (name .exit) ≡ now (name .entry)) ⌝ }
-{
-    lookup_of(true, image, name)
-}
-
-// The name of the component at a place, as a part of the image; empty where none stands there.
-pub fn name_at(image: &[u8], place: usize) -> &[u8]
-    ensures { λ r. ⌜ now r ≡ nameAt (now (image .entry)) place ⌝ }
-    ensures kept { λ _. ⌜ now (image .exit) ≡ now (image .entry) ⌝ }
-{
-    let m = master::read(image);
-    match m {
-        Master::Read(g) => region::name_at(image, g, place),
-        Master::Refused(_) => &image[0..0],
-    }
-}
-
-// The content of the component at a place, as a part of the image; empty where none stands there.
-pub fn content_at(image: &[u8], place: usize) -> &[u8]
-    ensures { λ r. ⌜ now r ≡ contentAt (now (image .entry)) place ⌝ }
-    ensures kept { λ _. ⌜ now (image .exit) ≡ now (image .entry) ⌝ }
-{
-    let m = master::read(image);
-    match m {
-        Master::Read(g) => region::content_at(image, g, place),
-        Master::Refused(_) => &image[0..0],
-    }
-}
-
 // The strict check: the directory of the components, or refusals 1 to 8, 12, 13 and 11.
 pub fn strict_check(image: &[u8]) -> Directory
     ensures { λ d. ⌜ d ≡ strictCheck (now (image .entry)) ⌝ }
@@ -129,7 +49,7 @@ pub fn strict_check(image: &[u8]) -> Directory
 {
     let m = master::read(image);
     match m {
-        Master::Read(g) => strict::check(image, g),
-        Master::Refused(r) => strict::refused(r.number, r.place),
+        Master::Read(g) => checker::check(image, g),
+        Master::Refused(r) => checker::refused(r.number, r.place),
     }
 }

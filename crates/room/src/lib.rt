@@ -8,7 +8,7 @@ ghost use Rattle.number.specs.Lists.{any};
 ghost use Rattle.walk.specs.Walk.{plain, listingFrom, plainListing};
 ghost use Rattle.lookup.specs.Lookup.{bears};
 ghost use Rattle.strict.specs.Slots.{start as startOf};
-ghost use Rattle.edit.specs.Edit.{holds as holdsOf, freeRuns, lowest, slotOf};
+ghost use Rattle.edit.specs.Edit.{offsetFor, holds as holdsOf, freeRuns, lowest, slotOf};
 ghost use Rattle.room.specs.Room.{run, roomFor, roomOf};
 
 // The bytes from start up to end, and the type of the component that stands there or is to.
@@ -22,6 +22,14 @@ pub struct Space {
 pub enum Room {
     Within(Space),
     Nowhere,
+}
+
+// The offset of a component of that name, as it is written.
+pub fn offset_for(name: &[u8]) -> usize
+    ensures { λ r. ⌜ r ≡ offsetFor (now (name .entry)) ⌝ }
+    ensures kept { λ _. ⌜ now (name .exit) ≡ now (name .entry) ⌝ }
+{
+    24 + (name.len() / 16 + 1) * 16
 }
 
 // The bytes from `from` up to `to` hold a span of n bytes.

@@ -14,13 +14,14 @@ use Rattle.terms.specs.Terms.{bytesOf}
 use Rattle.master.specs.Master.{headerAt, addressFits, bootblockFits, alignFits, offsetFits, tests, refusal, master}
 use Rattle.lookup.specs.Lookup.{bears, foremost, only}
 use Rattle.region.specs.Region.{Walked, ended, went, stepFits, stepBy, fromPlace}
-use Rattle.reading.specs.Reading.{nameAt, plainStep, guardedStep}
+use Rattle.reading.specs.Reading.{plainStep, guardedStep}
+use Rattle.finding.specs.Finding.{nameAt}
 use Rattle.strict.specs.Strict.{takes, stray, strays, decide, verdict}
 use Rattle.strict.specs.Slots.{start}
 use Rattle.edit.specs.Edit.{fieldSize, headerBytes, fieldBytes, spanBytes, buries, runs, lowest, slotOf, filled, adding, renewing, carriedOut, add, replace}
-use Rattle.load.specs.Fits.{sourceFits, lenFits, targetFits, loadTests}
+use Rattle.load.specs.Fits.{sourceFits, lenFits, targetFits, loadTests, endsBefore, apart}
 use Rattle.stage.specs.Stage.{stageTests, stageAnswer, stageOf, stageIn}
-use Rattle.payload.specs.Payload.{segmentAt, bssTests, paramsTests, typeTests, recordTests, endsBefore, apart, clear, turnTests, segmentsFrom, payloadTests, planOf, refusedPayload, payloadAnswer, payloadOf, payloadIn}
+use Rattle.payload.specs.Payload.{segmentAt, bssTests, paramsTests, typeTests, recordTests, clear, turnTests, segmentsFrom, payloadTests, planOf, refusedPayload, payloadAnswer, payloadOf, payloadIn}
 use Rattle.starred.specs.Starred.{All, nothing-more, _and_, image, A-500, told, table, cal, log, head, tables, hidingAt, addresses, aligns, spans, offsets, overrun, twice, replacing, growing, hiding, boot, plans, starred}
 
 addresses-hold : All addresses

@@ -21,7 +21,8 @@ use Rattle.region.specs.declared.Found.the-variants.{At}
 use Rattle.region.specs.declared.Found.the-variants.{Refused as NotFound}
 use Rattle.editor.specs.declared.Edited.the-variants.{Done}
 use Rattle.editor.specs.declared.Edited.the-variants.{Refused as NotDone}
-use Rattle.reading.specs.Reading.{plainStep, guardedStep, plainFind, guardedFind, nameAt}
+use Rattle.reading.specs.Reading.{plainStep, guardedStep}
+use Rattle.finding.specs.Finding.{plainFind, guardedFind, nameAt}
 use Rattle.editing.specs.Editing.{added, replaced}
 use Rattle.planning.specs.Planning.{stage, payload}
 

@@ -6,9 +6,4 @@ pub mod Accepting
 pub mod Reasons
 pub mod Verdicts
 pub mod Strays
-pub mod Checking
-pub mod Names
-pub mod Directories
-pub mod Passes
-pub mod Answers
 pub mod Example

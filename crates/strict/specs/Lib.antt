@@ -1,3 +1,2 @@
 pub mod Strict
 pub mod Slots
-pub mod Directory

@@ -13,7 +13,7 @@ pub fn put(page: &mut [u8], used: usize, s: &[u8]) -> usize
     ensures bytes { λ _. ⌜ now (page .exit) ≡ written (now (page .entry)) used (now (s .entry)) ⌝ }
     ensures kept { λ _. ⌜ now (s .exit) ≡ now (s .entry) ⌝ }
 {
-    if number::copy(page, used, s) {
+    if store::copy(page, used, s) {
         return used + s.len();
     }
     used

@@ -3,7 +3,7 @@
 use component::Header;
 use component::Judged;
 ghost use mathlib.Core.Path.{_≡_};
-ghost use mathlib.Core.Bool.{true, false, cond};
+ghost use mathlib.Core.Bool.{false, cond};
 ghost use Prim.Native.Nat.{_+_, _-_, _≤_, _<_, min};
 ghost use lib.ListN.{length};
 ghost use Rattle.walk.specs.Walk.{nextMagic, onward as onwardOf, step as stepOf, told, pickOf, plain};

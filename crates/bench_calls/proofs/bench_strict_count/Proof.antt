@@ -1,7 +1,7 @@
 use native.Mathlib.Omega.{arith}
 use mathlib.Core.Path.{refl, sym, ap, _∙_}
 use borrow.Author.Tests.{eq-eqb, ne-eqb}
-use Rattle.strict.specs.declared.Directory.{Directory}
+use Rattle.checker.specs.declared.Directory.{Directory}
 use Rattle.bench_calls.specs.Calls.{strictNumber}
 use Rattle.bench_calls.proofs.Refusing.{check-place}
 use borrow.Author.Needs.{needs}

@@ -1,4 +1,4 @@
-use mathlib.Core.Path.{refl, _∙_}
+use mathlib.Core.Path.{refl}
 use borrow.Author.Tests.{lt-leb}
 use Rattle.component.specs.Names.{nameTests}
 use Rattle.component.proofs.Naming.{name-bad, name-rest}

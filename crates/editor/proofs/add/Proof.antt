@@ -11,14 +11,14 @@ use Rattle.editor.proofs.add.Statement.{statement}
 use Rattle.editor.proofs.add.Tie as tie
 
 -- where the paths begin, and what the decision says of the slot
-abbrev start : tie.After-decide-add → tie.Start
+abbrev start : tie.After-add → tie.Start
 start c = c .before .before .before .before .before
 
 says : (c : tie.After-known-told2) → let a = start (c .before .before .before) .args in Puts (a .image .now) (a .region) (a .name .now) (a .content .now) (c .before .c2 .given .0 .0) (addIn (a .image .now) (a .region) (a .name .now) (a .kind) (a .content .now))
-says c = let w = c .before .before .before in let a = start w .args in add-puts (a .image .now) (a .region) (a .name .now) (a .kind) (a .content .now) (c .before .c2 .given .0 .0) (sym (w .decide-add .ensures) ∙ c .before .c2 .given .1)
+says c = let w = c .before .before .before in let a = start w .args in add-puts (a .image .now) (a .region) (a .name .now) (a .kind) (a .content .now) (c .before .c2 .given .0 .0) (sym (w .add .ensures .0) ∙ c .before .c2 .given .1)
 
-decide-add-requires : tie.Need-decide-add-requires
-decide-add-requires c κs = search needs
+add-requires : tie.Need-add-requires
+add-requires c κs = search needs
 
 enum-known-c : tie.Need-enum-known-c
 enum-known-c c = search needs
@@ -42,7 +42,7 @@ unfolding add
 returns c =
     let w = c .before .before .before in
     let a = start w .args in
-    let e = edit-refused (a .image .now) (a .region) (toAdd limit (bytesOf (a .image .now) (a .region)) (a .region .align) (a .name .now) (a .kind) (a .content .now)) (a .kind) (c .before .c .given .0 .0) (sym (w .decide-add .ensures) ∙ c .before .c .given .1) in
+    let e = edit-refused (a .image .now) (a .region) (toAdd limit (bytesOf (a .image .now) (a .region)) (a .region .align) (a .name .now) (a .kind) (a .content .now)) (a .kind) (c .before .c .given .0 .0) (sym (w .add .ensures .0) ∙ c .before .c .given .1) in
     (e .0, (e .1, (refl, refl)))
 
 same-length-2 : tie.Need-same-length-2
@@ -58,7 +58,7 @@ pub add-spec : {M : Type 1} → statement M
 add-spec =
     tie.close
     (tie.spec
-    decide-add-requires
+    add-requires
     enum-known-c
     enum-known-c-2
     put-at-requires

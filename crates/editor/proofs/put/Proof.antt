@@ -1,5 +1,5 @@
 use Prim.Native.Nat.{ℕ, _+_, _-_, _≤_, _<_}
-use mathlib.Core.Path.{refl, _∙_}
+use mathlib.Core.Path.{_≡_, refl, _∙_}
 use native.Mathlib.Omega.{arith}
 use lib.ListN.{length, replicate, length-replicate}
 use Rattle.number.proofs.Splice.{first, whole}
@@ -10,11 +10,11 @@ use borrow.Author.Needs.{needs}
 use Rattle.editor.proofs.put.Statement.{statement}
 use Rattle.editor.proofs.put.Tie as tie
 
-field-size-requires : tie.Need-field-size-requires
-field-size-requires c κs = search needs
+add-named : tie.Need-add-named
+add-named c = search needs
 
-add-offset : tie.Need-add-offset
-add-offset c = search needs
+offset-for-requires : tie.Need-offset-for-requires
+offset-for-requires c κs = search needs
 
 add-end : tie.Need-add-end
 add-end c = search needs
@@ -22,15 +22,15 @@ add-end c = search needs
 cast-put-header : tie.Need-cast-put-header
 cast-put-header c = search needs
 
--- the size of the name field, and its bounds
-abbrev start : tie.After-field-size → tie.Start
+-- the offset, and its bounds
+abbrev start : tie.After-offset-for → tie.Start
 start c = c .before .before .before .before
 
-most : (c : tie.After-field-size) → c .field-size .result ≤ 256
-most c = omega (arith, c .field-size .ensures, field-most (length (start c .args .name .now)) (start c .pre .0))
+most : (c : tie.After-offset-for) → c .offset-for .result ≤ 280
+most c = omega (arith, c .offset-for .ensures .0, field-most (length (start c .args .name .now)) (start c .pre .0))
 
-room : (c : tie.After-field-size) → length (start c .args .name .now) < c .field-size .result
-room c = omega (arith, c .field-size .ensures, field-room (length (start c .args .name .now)))
+room : (c : tie.After-offset-for) → 24 + length (start c .args .name .now) < c .offset-for .result
+room c = omega (arith, c .offset-for .ensures .0, field-room (length (start c .args .name .now)))
 
 cast-put-header-2 : tie.Need-cast-put-header-2
 cast-put-header-2 c = omega (arith, most (c .before))
@@ -40,9 +40,6 @@ put-header-requires c κs = search needs
 
 copy-requires : tie.Need-copy-requires
 copy-requires c κs = search needs
-
-add-fill : tie.Need-add-fill
-add-fill c = search needs
 
 sub-fill : tie.Need-sub-fill
 sub-fill c = omega (arith, room (c .before .before .before .before .before .before .before .before .before))
@@ -73,7 +70,7 @@ returns c =
     let st = start f in
     let s = st .args in
     let pre = st .pre in
-    let q = f .field-size .ensures in
+    let q = f .offset-for .ensures .0 in
     let n = length (s .name .now) in
     let k = length (s .content .now) in
     let d = length (s .slot .now) in
@@ -85,7 +82,8 @@ returns c =
     let fr = field-room n in
     let w0 = first (s .slot .now) 0 (headerBytes k (s .kind) o) 24 (rw q at (c0 .put-header .ensures)) (omega arith) (omega arith) in
     let w1 = more 24 (s .name .now) (24 + n) w0 (c1 .copy .ensures .1 .0) refl refl (omega arith) in
-    let w2 = more (24 + n) (replicate z 0) o w1 (rw q at (c2 .fill .ensures .1)) refl (omega arith) (omega arith) in
+    let zq : o - (24 + n) ≡ z = omega (arith, fr) in
+    let w2 = more (24 + n) (replicate z 0) o w1 (rw (q, zq) at (c2 .fill .ensures .1)) refl (omega arith) (omega arith) in
     let w3 = more _ (s .content .now) (o + k) w2 (c3 .copy2 .ensures .1 .0) (omega (arith, q)) (omega (arith, q)) (omega arith) in
     let w4 = more (o + k) (replicate (d - (o + k)) 255) d w3 (rw q at (c4 .fill2 .ensures .1)) refl (omega arith) (omega arith) in
     let l = length-span (s .name .now) (s .kind) (s .content .now) in
@@ -95,14 +93,13 @@ pub put-spec : {M : Type 1} → statement M
 put-spec =
     tie.close
     (tie.spec
-    field-size-requires
-    add-offset
+    add-named
+    offset-for-requires
     add-end
     cast-put-header
     cast-put-header-2
     put-header-requires
     copy-requires
-    add-fill
     sub-fill
     fill-requires
     copy-requires-2

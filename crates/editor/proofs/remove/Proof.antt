@@ -3,7 +3,7 @@ use native.Mathlib.Omega.{arith}
 use Rattle.terms.specs.Terms.{bytesOf}
 use Rattle.strict.specs.Strict.{limit}
 use Rattle.edit.specs.Edit.{remove, toRemove}
-use Rattle.editor.specs.Code.{kindOf}
+use Rattle.decide.specs.Code.{kindOf}
 use Rattle.editor.specs.Image.{removeIn}
 use Rattle.editor.proofs.Writing.{edit-refused}
 use Rattle.editor.proofs.Faces.{Clears, remove-clears}
@@ -12,14 +12,14 @@ use Rattle.editor.proofs.remove.Statement.{statement}
 use Rattle.editor.proofs.remove.Tie as tie
 
 -- where the paths begin, and what the decision says of the slot
-abbrev start : tie.After-decide-remove → tie.Start
+abbrev start : tie.After-remove → tie.Start
 start c = c .before .before .before .before
 
 says : (c : tie.After-known-told2) → let a = start (c .before .before .before) .args in Clears (a .image .now) (a .region) (c .before .c2 .given .0 .0) (removeIn (a .image .now) (a .region) (a .name .now))
-says c = let w = c .before .before .before in let a = start w .args in remove-clears (a .image .now) (a .region) (a .name .now) (c .before .c2 .given .0 .0) (sym (w .decide-remove .ensures) ∙ c .before .c2 .given .1)
+says c = let w = c .before .before .before in let a = start w .args in remove-clears (a .image .now) (a .region) (a .name .now) (c .before .c2 .given .0 .0) (sym (w .remove .ensures .0) ∙ c .before .c2 .given .1)
 
-decide-remove-requires : tie.Need-decide-remove-requires
-decide-remove-requires c κs = search needs
+remove-requires : tie.Need-remove-requires
+remove-requires c κs = search needs
 
 enum-known-c : tie.Need-enum-known-c
 enum-known-c c = search needs
@@ -43,7 +43,7 @@ unfolding remove
 returns c =
     let w = c .before .before .before in
     let a = start w .args in
-    let e = edit-refused (a .image .now) (a .region) (toRemove limit (bytesOf (a .image .now) (a .region)) (a .region .align) (a .name .now)) (kindOf (bytesOf (a .image .now) (a .region)) (a .region .align) (a .name .now)) (c .before .c .given .0 .0) (sym (w .decide-remove .ensures) ∙ c .before .c .given .1) in
+    let e = edit-refused (a .image .now) (a .region) (toRemove limit (bytesOf (a .image .now) (a .region)) (a .region .align) (a .name .now)) (kindOf (bytesOf (a .image .now) (a .region)) (a .region .align) (a .name .now)) (c .before .c .given .0 .0) (sym (w .remove .ensures .0) ∙ c .before .c .given .1) in
     (e .0, (e .1, refl))
 
 same-length-2 : tie.Need-same-length-2
@@ -59,7 +59,7 @@ pub remove-spec : {M : Type 1} → statement M
 remove-spec =
     tie.close
     (tie.spec
-    decide-remove-requires
+    remove-requires
     enum-known-c
     enum-known-c-2
     clear-at-requires

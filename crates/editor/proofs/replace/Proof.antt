@@ -3,7 +3,7 @@ use native.Mathlib.Omega.{arith}
 use Rattle.terms.specs.Terms.{bytesOf}
 use Rattle.strict.specs.Strict.{limit}
 use Rattle.edit.specs.Edit.{replace, toReplace}
-use Rattle.editor.specs.Code.{kindOf}
+use Rattle.decide.specs.Code.{kindOf}
 use Rattle.editor.specs.Image.{replaceIn}
 use Rattle.editor.proofs.Writing.{edit-refused}
 use Rattle.editor.proofs.Faces.{Puts, replace-puts}
@@ -12,14 +12,14 @@ use Rattle.editor.proofs.replace.Statement.{statement}
 use Rattle.editor.proofs.replace.Tie as tie
 
 -- where the paths begin, and what the decision says of the slot
-abbrev start : tie.After-decide-replace → tie.Start
+abbrev start : tie.After-replace → tie.Start
 start c = c .before .before .before .before .before
 
 says : (c : tie.After-known-told2) → let a = start (c .before .before .before) .args in Puts (a .image .now) (a .region) (a .name .now) (a .content .now) (c .before .c2 .given .0 .0) (replaceIn (a .image .now) (a .region) (a .name .now) (a .content .now))
-says c = let w = c .before .before .before in let a = start w .args in replace-puts (a .image .now) (a .region) (a .name .now) (a .content .now) (c .before .c2 .given .0 .0) (sym (w .decide-replace .ensures) ∙ c .before .c2 .given .1)
+says c = let w = c .before .before .before in let a = start w .args in replace-puts (a .image .now) (a .region) (a .name .now) (a .content .now) (c .before .c2 .given .0 .0) (sym (w .replace .ensures .0) ∙ c .before .c2 .given .1)
 
-decide-replace-requires : tie.Need-decide-replace-requires
-decide-replace-requires c κs = search needs
+replace-requires : tie.Need-replace-requires
+replace-requires c κs = search needs
 
 enum-known-c : tie.Need-enum-known-c
 enum-known-c c = search needs
@@ -43,7 +43,7 @@ unfolding replace
 returns c =
     let w = c .before .before .before in
     let a = start w .args in
-    let e = edit-refused (a .image .now) (a .region) (toReplace limit (bytesOf (a .image .now) (a .region)) (a .region .align) (a .name .now) (a .content .now)) (kindOf (bytesOf (a .image .now) (a .region)) (a .region .align) (a .name .now)) (c .before .c .given .0 .0) (sym (w .decide-replace .ensures) ∙ c .before .c .given .1) in
+    let e = edit-refused (a .image .now) (a .region) (toReplace limit (bytesOf (a .image .now) (a .region)) (a .region .align) (a .name .now) (a .content .now)) (kindOf (bytesOf (a .image .now) (a .region)) (a .region .align) (a .name .now)) (c .before .c .given .0 .0) (sym (w .replace .ensures .0) ∙ c .before .c .given .1) in
     (e .0, (e .1, (refl, refl)))
 
 same-length-2 : tie.Need-same-length-2
@@ -59,7 +59,7 @@ pub replace-spec : {M : Type 1} → statement M
 replace-spec =
     tie.close
     (tie.spec
-    decide-replace-requires
+    replace-requires
     enum-known-c
     enum-known-c-2
     put-at-requires

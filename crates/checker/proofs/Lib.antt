@@ -1,0 +1,5 @@
+pub mod Checking
+pub mod Names
+pub mod Directories
+pub mod Passes
+pub mod Answers

@@ -1,0 +1,86 @@
+use Prim.Native.Nat.{_-_, _≤_}
+use mathlib.Core.Path.{_≡_, refl, sym, _∙_}
+use native.Mathlib.Omega.{arith}
+use lib.ListN.{take, drop}
+use Rattle.number.specs.Lists.{any}
+use Rattle.checker.specs.Directory.{named}
+use Rattle.checker.proofs.Names.{any-here, any-on, any-end}
+use borrow.Author.Needs.{needs}
+use Rattle.checker.proofs.any_named.Statement.{statement}
+use Rattle.checker.proofs.any_named.Tie as tie
+
+abbrev Inv-loop : tie.InvT-loop
+Inv-loop r places digests from to name asked k₀ k = (from ≤ k) × (any (named r name) (take (to - from) (drop from places)) ≡ any (named r name) (take (to - k) (drop k places)))
+
+abbrev μ-loop : tie.MeasureT-loop
+μ-loop r places digests from to name asked k₀ k = to - k
+
+abbrev start : tie.At-loop Inv-loop μ-loop → tie.Start Inv-loop μ-loop
+start c = c .before .before .before .before .before
+
+loop-holds : tie.Need-loop-holds Inv-loop μ-loop
+loop-holds c = (omega arith, refl)
+
+mul-is-named : tie.Need-mul-is-named Inv-loop μ-loop
+mul-is-named c = search needs
+
+shared-slice-read-is-named : tie.Need-shared-slice-read-is-named Inv-loop μ-loop
+shared-slice-read-is-named c = search needs
+
+mul-is-named-2 : tie.Need-mul-is-named-2 Inv-loop μ-loop
+mul-is-named-2 c = search needs
+
+shared-slice-read-is-named-2 : tie.Need-shared-slice-read-is-named-2 Inv-loop μ-loop
+shared-slice-read-is-named-2 c = search needs
+
+is-named-requires : tie.Need-is-named-requires Inv-loop μ-loop
+is-named-requires c κs =
+    let l = c .before .before .before in
+    let s = start l in
+    (s .pre .3 .each (l .loop .k) (omega arith), s .pre .4)
+
+-- the place where the paths begin
+abbrev loop : tie.After-is-named Inv-loop μ-loop → tie.At-loop Inv-loop μ-loop
+loop c = c .before .before .before .before
+
+returns : tie.Need-returns Inv-loop μ-loop
+returns c =
+    let l = loop (c .before) in
+    let a = start l .args in
+    sym (l .loop .inv .1 ∙ any-here (named (a .r .now) (a .name .now)) (a .places .now) (l .loop .k) (a .to) (omega arith) (start l .pre .1) (sym (c .before .is-named .ensures) ∙ c .if1 .taken))
+
+add-k : tie.Need-add-k Inv-loop μ-loop
+add-k c = search needs
+
+loop-less : tie.Need-loop-less Inv-loop μ-loop
+loop-less c = search needs
+
+loop-again : tie.Need-loop-again Inv-loop μ-loop
+loop-again c =
+    let l = loop (c .before) in
+    let a = start l .args in
+    (omega arith, l .loop .inv .1 ∙ any-on (named (a .r .now) (a .name .now)) (a .places .now) (l .loop .k) (a .to) (omega arith) (start l .pre .1) (sym (c .before .is-named .ensures) ∙ c .if1 .left))
+
+returns-2 : tie.Need-returns-2 Inv-loop μ-loop
+returns-2 c =
+    let l = c .before in
+    let a = start l .args in
+    sym (l .loop .inv .1 ∙ any-end (named (a .r .now) (a .name .now)) (a .places .now) (l .loop .k) (a .to) (omega arith))
+
+pub any-named-spec : {M : Type 1} → statement M
+any-named-spec =
+    tie.close
+    (tie.spec
+    Inv-loop
+    μ-loop
+    loop-holds
+    mul-is-named
+    shared-slice-read-is-named
+    mul-is-named-2
+    shared-slice-read-is-named-2
+    is-named-requires
+    returns
+    add-k
+    loop-less
+    loop-again
+    returns-2)

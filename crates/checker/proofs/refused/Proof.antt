@@ -1,0 +1,11 @@
+use mathlib.Core.Path.{refl}
+use Rattle.checker.specs.Directory.{noPlaces}
+use Rattle.checker.proofs.refused.Statement.{statement}
+use Rattle.checker.proofs.refused.Tie as tie
+
+returns : tie.Need-returns
+unfolding noPlaces
+returns c = refl
+
+pub refused-spec : {M : Type 1} → statement M
+refused-spec = tie.close (tie.spec returns)

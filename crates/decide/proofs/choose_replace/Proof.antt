@@ -1,0 +1,142 @@
+use Prim.Native.Nat.{ℕ, _+_, _≤_}
+use mathlib.Core.Path.{_≡_, sym, ap, _∙_}
+use mathlib.Core.Bool.{false}
+use native.Mathlib.Omega.{arith}
+use lib.ListN.{length}
+use borrow.Author.Tests.{not-true, not-false}
+use Rattle.walk.specs.Walk.{plainListing}
+use Rattle.edit.specs.Edit.{spanBytes, buries, holds, slotOf}
+use Rattle.room.specs.Room.{run, roomOf}
+use Rattle.room.specs.declared.Room.the-variants.{Within}
+use Rattle.edit.proofs.Written.{field-most, length-span}
+use Rattle.decide.proofs.Choosing.{renewed-10, renewed-16, renewed-17, renewed, room-short, long-unheld}
+use borrow.Author.Needs.{needs}
+use Rattle.decide.proofs.choose_replace.Statement.{statement}
+use Rattle.decide.proofs.choose_replace.Tie as tie
+
+slot-of-requires : tie.Need-slot-of-requires
+slot-of-requires c κs = search needs
+
+enum-told : tie.Need-enum-told
+enum-told c = search needs
+
+refuse-requires : tie.Need-refuse-requires
+refuse-requires c κs = search needs
+
+enum-known-x : tie.Need-enum-known-x
+enum-known-x c = search needs
+
+-- what the tests say
+abbrev start : tie.After-slot-of → tie.Start
+start c = c .before .before .before .before
+
+abbrev told : tie.After-offset-for → tie.After-known-told
+told c = c .before .before .before
+
+-- the slot that was found
+within : (c : tie.After-known-told) → let a = start (c .before .before .before) .args in
+    roomOf (slotOf (length (a .r .now)) (a .name .now) (plainListing (a .r .now) (a .align))) ≡ Within (c .before .x .given .0 .0)
+within c = sym (c .before .before .before .slot-of .ensures .0) ∙ c .before .x .given .1
+
+short : (c : tie.After-known-told) → length (start (c .before .before .before) .args .name .now) ≤ 255
+short c = let a = start (c .before .before .before) .args in room-short (a .r .now) (a .align) (a .name .now) _ (within c)
+
+clean : (c : tie.Else1) → let k = c .before .before in let a = start (k .before .before .before) .args in
+    buries (a .align) (spanBytes (a .name .now) (k .before .x .given .0 .0 .kind) (a .content .now)) ≡ false
+clean c = sym (c .before .buries .ensures) ∙ c .if1 .left
+
+most : (c : tie.After-offset-for) → c .offset-for .result ≤ 280
+most c = omega (arith, c .offset-for .ensures .0, field-most (length (start (told c .before .before .before) .args .name .now)) (short (told c)))
+
+-- the span's length
+spans : (c : tie.After-offset-for) → let k = told c in let a = start (k .before .before .before) .args in
+    c .offset-for .result + length (a .content .now) ≡ length (spanBytes (a .name .now) (k .before .x .given .0 .0 .kind) (a .content .now))
+spans c = let k = told c in let a = start (k .before .before .before) .args in
+    omega (arith, c .offset-for .ensures .0, length-span (a .name .now) (k .before .x .given .0 .0 .kind) (a .content .now))
+
+held : (c : tie.After-holds) → let f = c .before .before in let k = told f in let a = start (k .before .before .before) .args in let z = k .before .x .given .0 .0 in
+    c .holds .result ≡ holds (length (spanBytes (a .name .now) (z .kind) (a .content .now))) (run (z .start) (z .end))
+held c = let f = c .before .before in let z = told f .before .x .given .0 .0 in c .holds .ensures ∙ ap (λ (n : ℕ). holds n (run (z .start) (z .end))) (spans f)
+
+buries-requires : tie.Need-buries-requires
+buries-requires c κs = short c
+
+refuse-requires-2 : tie.Need-refuse-requires-2
+refuse-requires-2 c κs = search needs
+
+returns : tie.Need-returns
+returns c =
+    λ s. let b = c .before .before in
+    let k = b .before in
+    let a = start (k .before .before .before) .args in
+    c .refuse2 .ensures ∙ renewed-16 s _ (a .align) (a .name .now) (a .content .now) _ (within k) (sym (b .buries .ensures) ∙ c .before .if1 .taken)
+
+offset-for-requires : tie.Need-offset-for-requires
+offset-for-requires c κs = search needs
+
+sub-if2 : tie.Need-sub-if2
+sub-if2 c = omega (arith, most c)
+
+refuse-requires-3 : tie.Need-refuse-requires-3
+refuse-requires-3 c κs = search needs
+
+returns-2 : tie.Need-returns-2
+returns-2 c =
+    λ s. let f = c .before .before in
+    let k = told f in
+    let a = start (k .before .before .before) .args in
+    c .refuse3 .ensures ∙ renewed-17 s _ (a .align) (a .name .now) (a .content .now) _ (within k) (clean (f .before)) (long-unheld (length (spanBytes (a .name .now) (k .before .x .given .0 .0 .kind) (a .content .now))) _ (omega (arith, spans f, c .before .if2 .taken, most f)))
+
+add-holds : tie.Need-add-holds
+add-holds c = omega (arith, most (c .before), c .if2 .left)
+
+holds-requires : tie.Need-holds-requires
+holds-requires c κs = search needs
+
+refuse-requires-4 : tie.Need-refuse-requires-4
+refuse-requires-4 c κs = search needs
+
+returns-3 : tie.Need-returns-3
+returns-3 c =
+    λ s. let h = c .before .before in
+    let f = h .before .before in
+    let k = told f in
+    let a = start (k .before .before .before) .args in
+    c .refuse4 .ensures ∙ renewed-17 s _ (a .align) (a .name .now) (a .content .now) _ (within k) (clean (f .before)) (sym (held h) ∙ not-true _ (c .before .if3 .taken))
+
+returns-4 : tie.Need-returns-4
+returns-4 c =
+    λ s. let t = c .before in
+    let w = t .before .before in
+    let a = start w .args in
+    c .refuse .ensures ∙ renewed-10 s _ (a .align) (a .name .now) (a .content .now) (sym (w .slot-of .ensures .0) ∙ t .enum-told .given .1)
+
+returns-5 : tie.Need-returns-5
+returns-5 c =
+    λ s. let h = c .before in
+    let f = h .before .before in
+    let k = told f in
+    let a = start (k .before .before .before) .args in
+    renewed s _ (a .align) (a .name .now) (a .content .now) _ (within k) (clean (f .before)) (sym (held h) ∙ not-false _ (c .if3 .left))
+
+pub choose-replace-spec : {M : Type 1} → statement M
+choose-replace-spec =
+    tie.close
+    (tie.spec
+    slot-of-requires
+    enum-told
+    refuse-requires
+    enum-known-x
+    buries-requires
+    refuse-requires-2
+    returns
+    offset-for-requires
+    sub-if2
+    refuse-requires-3
+    returns-2
+    add-holds
+    holds-requires
+    refuse-requires-4
+    returns-3
+    returns-4
+    returns-5)
