@@ -48,7 +48,7 @@ fn main() -> ExitCode {
     let mut memory = vec![0u8; COPIES * MIB];
     let ends = ENDS.map(images::cases);
     for (at, row) in times.iter_mut().enumerate() {
-        for k in 0..runs / 2 {
+        for k in 0..runs {
             for (end, cases) in ends.iter().enumerate() {
                 let case = &cases[at];
                 memory.chunks_exact_mut(case.image.len()).for_each(|copy| copy.copy_from_slice(&case.image));

@@ -29,7 +29,7 @@ fn run(call: Call, images: &[&[u8]], name: &[u8], times: usize) -> f64 {
 // The sides take turns: `first` tells which begins.
 pub fn both(sides: [Call; 2], images: &[&[u8]], name: &[u8], first: usize) -> [f64; 2] {
     let round = run(sides[0], images, name, images.len());
-    let times = (50_000.0 / round).clamp(1.0, 500.0) as usize / images.len();
+    let times = (50_000.0 / round).clamp(1.0, 2000.0) as usize / images.len();
     let times = times.max(1) * images.len();
     let mut taken = [0.0; 2];
     for turn in 0..2 {
