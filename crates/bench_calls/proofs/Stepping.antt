@@ -35,8 +35,8 @@ steps-few pick r a (suc k) n = go (step pick r a n) (λ m. steps-few pick r a k 
 -- n components are counted, the steps from `from` on give the rest, and all together are as many as `total`.
 pub record Counting (call : ℕ → Step) (total from n : ℕ) : Type 0 where
   pub rest : List Taken
-  walked : Walked call from rest
-  sum : n + length rest ≡ total
+  pub walked : Walked call from rest
+  pub sum : n + length rest ≡ total
 
 module _ {call : ℕ → Step} {total from n : ℕ} where
   -- A step that takes a component leaves one less to count.

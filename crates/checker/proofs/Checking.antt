@@ -17,7 +17,7 @@ use Rattle.strict.proofs.Strays.{straysFrom, lowest, firstStray, plainFrom, str
 
 -- The lowest of the strays decides.
 
-stray-verdict : (most : ℕ) (r : List ℕ) (a p : ℕ) → firstStray r a 0 ≡ some p → verdict most r a ≡ refused 12 p
+pub stray-verdict : (most : ℕ) (r : List ℕ) (a p : ℕ) → firstStray r a 0 ≡ some p → verdict most r a ≡ refused 12 p
 unfolding verdict
 stray-verdict most r a p e = rw (strays-from r a) (go (straysFrom r a 0) e)
   where
@@ -25,7 +25,7 @@ stray-verdict most r a p e = rw (strays-from r a) (go (straysFrom r a 0) e)
     go [] q = absurd (Option·none-ne-some p (unfold lowest in q))
     go (x ∷ xs) q = unfold decide in ap (λ (n : ℕ). refused 12 n) (Option·some-injective x p (unfold lowest in q))
 
-no-stray : (r : List ℕ) (a : ℕ) → firstStray r a 0 ≡ none → strays r a ≡ []
+pub no-stray : (r : List ℕ) (a : ℕ) → firstStray r a 0 ≡ none → strays r a ≡ []
 no-stray r a e = strays-from r a ∙ go (straysFrom r a 0) e
   where
     go : (l : List ℕ) → lowest l ≡ none → l ≡ []

@@ -21,12 +21,12 @@ use Rattle.checker.specs.Directory.{nameAt, stirred, digestOn, digestOf,
 
 -- A window of a list, from k up to n.
 
-window-cons : (ps : List ℕ) (k n : ℕ) → k < n → n ≤ length ps → take (n - k) (drop k ps) ≡ getD ps k 0 ∷ take (n - (k + 1)) (drop (k + 1) ps)
+pub window-cons : (ps : List ℕ) (k n : ℕ) → k < n → n ≤ length ps → take (n - k) (drop k ps) ≡ getD ps k 0 ∷ take (n - (k + 1)) (drop (k + 1) ps)
 window-cons ps k n h l =
     let e : n - k ≡ suc (n - (k + 1)) = omega arith in
     rw (e, drop-cons ps k 0 (omega arith), add-one k)
 
-window-end : (ps : List ℕ) (k n : ℕ) → n ≤ k → take (n - k) (drop k ps) ≡ []
+pub window-end : (ps : List ℕ) (k n : ℕ) → n ≤ k → take (n - k) (drop k ps) ≡ []
 window-end ps k n h = let e : n - k ≡ 0 = omega arith in rw e
 
 -- Does one of them bear the name?

@@ -24,7 +24,7 @@ use Rattle.claims.specs.Demand3.{placed, guardedEntries, inSlots}
 
 -- Lists through a map.
 
-mem-map : {h : Entry → Entry} (l : List Entry) (y : Entry) → List·Memᴰ y (map h l) → (x : Entry) × List·Memᴰ x l × (y ≡ h x)
+pub mem-map : {h : Entry → Entry} (l : List Entry) (y : Entry) → List·Memᴰ y (map h l) → (x : Entry) × List·Memᴰ x l × (y ≡ h x)
 mem-map [] y m = absurd (List·Memᴰ·not-nil m)
 mem-map {h} (x ∷ l) y m = go (List·Memᴰ·cases-cons m) (λ n. mem-map l y n)
   where

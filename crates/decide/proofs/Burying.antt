@@ -40,7 +40,7 @@ lead-between a n pos e =
     rw (below-unique a pos n (n / a + 1) (omega arith) (omega arith)) (omega arith)
 
 -- A place at or after n lies whole steps after the first.
-lead-on : (a n q : ℕ) → 0 < a → Place a q → n ≤ q → (i : ℕ) × (q ≡ n + (lead a n + i * a))
+pub lead-on : (a n q : ℕ) → 0 < a → Place a q → n ≤ q → (i : ℕ) × (q ≡ n + (lead a n + i * a))
 unfolding lead
 lead-on a n q pos (j, e) h =
     let k : placesBelow a n ≤ j = go (decLe (placesBelow a n) j) in
@@ -56,7 +56,7 @@ lead-on a n q pos (j, e) h =
     by : (c d : ℕ) → n ≤ c * a → j ≡ c + d → q ≡ n + (c * a - n + d * a)
     by c d g f = let x : q ≡ (c + d) * a = rw f at e in omega arith
 
-lead-at : (a n i : ℕ) → 0 < a → Place a (n + (lead a n + i * a))
+pub lead-at : (a n i : ℕ) → 0 < a → Place a (n + (lead a n + i * a))
 unfolding lead
 lead-at a n i pos = (placesBelow a n + i, omega (arith, below-ge a pos n))
 
@@ -105,7 +105,7 @@ one-l (suc (suc (suc (suc (suc (suc (suc zero))))))) h k e = omega (arith, e)
 one-l (suc (suc (suc (suc (suc (suc (suc (suc j)))))))) h k e = omega arith
 
 -- A byte that is no letter is in no magic.
-no-letter : (s : List ℕ) (q i : ℕ) → q ≤ i → i < q + 8 → getD s i 0 < 65 → carries s q ≡ false
+pub no-letter : (s : List ℕ) (q i : ℕ) → q ≤ i → i < q + 8 → getD s i 0 < 65 → carries s q ≡ false
 no-letter s q i h k z = go (carries s q) refl
   where
     go : (b : Bool) → carries s q ≡ b → b ≡ false
@@ -116,7 +116,7 @@ no-letter s q i h k z = go (carries s q) refl
         absurd (omega (arith, rw n at c, letter (i - q) (omega arith)))
 
 -- What stands in a part stands in the whole.
-carries-part : (u v w : List ℕ) (k q : ℕ) → q ≡ length u + k → k + 8 ≤ length v → carries (u ++ (v ++ w)) q ≡ carries v k
+pub carries-part : (u v w : List ℕ) (k q : ℕ) → q ≡ length u + k → k + 8 ≤ length v → carries (u ++ (v ++ w)) q ≡ carries v k
 unfolding carries startsWithMagic
 carries-part u v w k q e h =
     let d : drop q (u ++ (v ++ w)) ≡ drop k (v ++ w) = rw e (sym (drop-drop k (length u) (u ++ (v ++ w))) ∙ ap (drop k) (drop-at u (v ++ w) (length u) refl)) in

@@ -61,7 +61,7 @@ slot-inside r a acc name z e =
     let o : Own a (length r) name (guardedListing r a) z = slot-own r a pos name 0 (guardedListing r a) (row r a pos) z (rw (walks-agree r a acc) at e) in
     (o .long, o .inside)
 
-slot-short : (r : List ℕ) (a : ℕ) (name : List ℕ) (z : Slot) → slotOf (length r) name (plainListing r a) ≡ some z → length name ≤ 255
+pub slot-short : (r : List ℕ) (a : ℕ) (name : List ℕ) (z : Slot) → slotOf (length r) name (plainListing r a) ≡ some z → length name ≤ 255
 slot-short r a name z e =
     let m = slot-member (length r) name (plainListing r a) z e in
     name-fit name (rw (bears-name name (z .entry) (m .1)) at (listed-fit r a (z .entry) (m .0))) .short
@@ -94,11 +94,11 @@ pub room-none : (k : ℕ) (o : Option Run) → roomFor k o ≡ Nowhere → o ≡
 room-none k none e = refl
 room-none k (some x) e = let o : _≡_ {A = ℕ} 0 1 = cc in absurd (omega arith)
 
-slot-some : (o : Option Slot) (z : Space) → roomOf o ≡ Within z → (y : Slot) × (o ≡ some y) × (spaceOf (y .run) (y .entry .component .kind) ≡ z)
+pub slot-some : (o : Option Slot) (z : Space) → roomOf o ≡ Within z → (y : Slot) × (o ≡ some y) × (spaceOf (y .run) (y .entry .component .kind) ≡ z)
 slot-some none z e = let o : _≡_ {A = ℕ} 0 1 = cc in absurd (omega arith)
 slot-some (some y) z e = (y, refl, (cc))
 
-slot-none : (o : Option Slot) → roomOf o ≡ Nowhere → o ≡ none
+pub slot-none : (o : Option Slot) → roomOf o ≡ Nowhere → o ≡ none
 slot-none none e = refl
 slot-none (some y) e = let o : _≡_ {A = ℕ} 0 1 = cc in absurd (omega arith)
 

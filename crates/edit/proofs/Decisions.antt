@@ -19,7 +19,7 @@ use Rattle.edit.specs.Edit.{Run, holds, runs, lowest, Slot, slotOf, buri
 
 -- No decision is two of these.
 
-numberIn : Decision → ℕ
+pub numberIn : Decision → ℕ
 numberIn (refuse n p) = n
 numberIn (write x s) = 0
 

@@ -29,7 +29,7 @@ use Rattle.edit.proofs.Theorems.{slot-borne, add-accepted, add-done, re
 abbrev pub NoRoom : ℕ → List Run → Type 0
 NoRoom n l = (q : ℕ) → HeldAt n l q → ⊥
 
-no-room : (n : ℕ) (l : List Run) → (lowest n l ≡ none) ↔ NoRoom n l
+pub no-room : (n : ℕ) (l : List Run) → (lowest n l ≡ none) ↔ NoRoom n l
 no-room n l = (lowest-none n l, λ h. go h (lowest n l) refl)
   where
     go : NoRoom n l → (o : Option Run) → lowest n l ≡ o → o ≡ none
@@ -85,7 +85,7 @@ module _ (most : ℕ) (r : List ℕ) (a : ℕ) (name s : List ℕ) (l : List Ent
       go (nowhere o n v) e = absurd (clash 17 0 16 0 v e (λ z. omega arith))
       go (placed x o n v) e = absurd (not-write 16 0 x s e v)
 
-  adding-17 : (A ≡ refuse 17 0) ↔ (Addable most a name s l × NoRoom (length s) (runs r a 0 l))
+  pub adding-17 : (A ≡ refuse 17 0) ↔ (Addable most a name s l × NoRoom (length s) (runs r a 0 l))
   adding-17 = (
     go (add-case most r a name s l),
     λ p. unfold adding in rw (p .0 .free .named, p .0 .free .unused, lt-ltb (length l) most (p .0 .free .few), p .0 .clean, no-room (length s) (runs r a 0 l) .1 (p .1)),
@@ -139,7 +139,7 @@ module _ (r : List ℕ) (a : ℕ) (name : List ℕ) (kind : ℕ) (put : List ℕ
   add-16 = both (late r a (adding 256 r a name s₁ L) 16 (λ z. omega arith) (λ z. omega arith) (λ z. omega arith)) (adding-16 256 r a name s₁ L)
 
   -- 17 exactly if nothing earlier applies and no free run holds the span.
-  add-17 : (add 256 r a name kind put .reply ≡ refusal 17 0) ↔ (Accepted r a × (Addable 256 a name s₁ L × NoRoom (length s₁) (freeRuns r a)))
+  pub add-17 : (add 256 r a name kind put .reply ≡ refusal 17 0) ↔ (Accepted r a × (Addable 256 a name s₁ L × NoRoom (length s₁) (freeRuns r a)))
   unfolding add
   add-17 = both (late r a (adding 256 r a name s₁ L) 17 (λ z. omega arith) (λ z. omega arith) (λ z. omega arith)) (adding-17 256 r a name s₁ L)
 
@@ -256,7 +256,7 @@ module _ (r : List ℕ) (a : ℕ) (name : List ℕ) where
     unfolding replace renewing
     replace-does acc z e b h = is-done r _ (z .run) (span₂ z) (check-accepted r a R acc ∙ rw (e, b, h))
 
-  clearing-10 : (clearing slot ≡ refuse 10 0) ↔ (any (bears name) L₂ ≡ false)
+  pub clearing-10 : (clearing slot ≡ refuse 10 0) ↔ (any (bears name) L₂ ≡ false)
   clearing-10 = (go (clear-case (length r) name L₂), λ b. unfold clearing in rw (slot-borne (length r) name L₂ .1 b))
     where
       go : ClearCase (length r) name L₂ → clearing slot ≡ refuse 10 0 → any (bears name) L₂ ≡ false
@@ -267,7 +267,7 @@ module _ (r : List ℕ) (a : ℕ) (name : List ℕ) where
   unfolding remove
   remove-10 = both (late r a (clearing slot) 10 (λ z. omega arith) (λ z. omega arith) (λ z. omega arith)) clearing-10
 
-  remove-does : Accepted r a → (z : Slot) → slot ≡ some z → remove 256 r a name .reply ≡ done (z .run .from)
+  pub remove-does : Accepted r a → (z : Slot) → slot ≡ some z → remove 256 r a name .reply ≡ done (z .run .from)
   unfolding remove clearing
   remove-does acc z e = is-done r _ (z .run) [] (check-accepted r a (clearing slot) acc ∙ rw e)
 

@@ -79,7 +79,7 @@ out-after x i h = rw (le-ltb i (x .to) h) (go (leb (x .from) i))
     go true = refl
     go false = refl
 
-in-false : (x : Run) (i : ℕ) → inRun x i ≡ false → (i < x .from) ⊎ (x .to ≤ i)
+pub in-false : (x : Run) (i : ℕ) → inRun x i ≡ false → (i < x .from) ⊎ (x .to ≤ i)
 in-false x i e = go (decLt i (x .from)) (decLe (x .to) i)
   where
     go : Dec (i < x .from) → Dec (x .to ≤ i) → (i < x .from) ⊎ (x .to ≤ i)
@@ -171,7 +171,7 @@ module _ (r : List ℕ) (a : ℕ) (big : 8 ≤ a) (sound : Sound r a) (x : Run) 
   unfolding plain
   new-plain = rw (filled-part r x s fits (room .inside)) (judge-written name kind put _ fit typed told)
 
-  new-guarded : guarded r″ a (x .from) ≡ some (made name kind put)
+  pub new-guarded : guarded r″ a (x .from) ≡ some (made name kind put)
   new-guarded = guarded-of r″ a pos₂ (x .from) (made name kind put) new-plain
       (buried-of r″ a pos₂ (x .from) (span (made name kind put)) (λ q pl lt lt′. quiet r a big sound x room s fits clean q pl lt (omega (arith, length-span name kind put))) (room .at))
 

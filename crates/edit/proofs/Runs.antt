@@ -26,7 +26,7 @@ use Rattle.edit.proofs.Filling.{Room, inRun}
 pub holds-true : (n : ℕ) (x : Run) → holds n x ≡ true → (n ≤ 0xFFFFFFFF) × (x .from + n ≤ x .to)
 holds-true n x e = let b = both-true (leb n 0xFFFFFFFF) (leb (x .from + n) (x .to)) e in (leb-true n 0xFFFFFFFF (b .0), leb-true (x .from + n) (x .to) (b .1))
 
-holds-of : (n : ℕ) (x : Run) → n ≤ 0xFFFFFFFF → x .from + n ≤ x .to → holds n x ≡ true
+pub holds-of : (n : ℕ) (x : Run) → n ≤ 0xFFFFFFFF → x .from + n ≤ x .to → holds n x ≡ true
 holds-of n x h k = rw (le-leb n 0xFFFFFFFF h, le-leb (x .from + n) (x .to) k)
 
 -- Components in their order below e, from n on: at places, one after the other.

@@ -30,7 +30,7 @@ pub field-most : (n : ℕ) → n ≤ 255 → fieldSize n ≤ 256
 unfolding fieldSize
 field-most n h = omega arith
 
-field-least : (n : ℕ) → 16 ≤ fieldSize n
+pub field-least : (n : ℕ) → 16 ≤ fieldSize n
 unfolding fieldSize
 field-least n = omega arith
 
@@ -47,7 +47,7 @@ field-shortest n k h = omega arith
 pub record Fit (name : List ℕ) : Type 0 where
   pub some-byte : 1 ≤ length name
   pub short : length name ≤ 255
-  printable : all isPrintable name ≡ true
+  pub printable : all isPrintable name ≡ true
 
 pub name-fit : (name : List ℕ) → nameFits name ≡ true → Fit name
 unfolding nameFits nameTests
@@ -78,7 +78,7 @@ unfolding all
 all-zeros zero = refl
 all-zeros (suc k) = all-zeros k
 
-length-magic : length magic ≡ 8
+pub length-magic : length magic ≡ 8
 unfolding magic
 length-magic = refl
 
@@ -99,7 +99,7 @@ module _ (len kind offset : ℕ) (rest : List ℕ) where
   abbrev h : List ℕ
   h = headerBytes len kind offset ++ rest
 
-  header-magic : startsWithMagic h ≡ true
+  pub header-magic : startsWithMagic h ≡ true
   unfolding headerBytes magic startsWithMagic eqBytes
   header-magic = refl
 
@@ -108,13 +108,13 @@ module _ (len kind offset : ℕ) (rest : List ℕ) where
   unfolding headerBytes
   split = simp append-assoc
 
-  header-len : len < 256 ^ 4 → be 4 h 8 ≡ len
+  pub header-len : len < 256 ^ 4 → be 4 h 8 ≡ len
   header-len l = rw split (be-beBytes 4 len magic (beBytes 4 kind ++ (beBytes 4 0 ++ (beBytes 4 offset ++ rest))) 8 length-magic l)
 
   eight : (v : ℕ) → length (magic ++ beBytes 4 v) ≡ 12
   eight v = simp (length-append, length-magic, length-beBytes) refl
 
-  header-kind : kind < 256 ^ 4 → be 4 h 12 ≡ kind
+  pub header-kind : kind < 256 ^ 4 → be 4 h 12 ≡ kind
   header-kind l =
       rw (split, ← append-assoc magic (beBytes 4 len) (beBytes 4 kind ++ (beBytes 4 0 ++ (beBytes 4 offset ++ rest))))
       (be-beBytes 4 kind (magic ++ beBytes 4 len) (beBytes 4 0 ++ (beBytes 4 offset ++ rest)) 12 (eight len) l)
@@ -130,7 +130,7 @@ module _ (len kind offset : ℕ) (rest : List ℕ) where
   unfolding headerBytes front
   regroup = simp append-assoc
 
-  header-offset : offset < 256 ^ 4 → be 4 h 20 ≡ offset
+  pub header-offset : offset < 256 ^ 4 → be 4 h 20 ≡ offset
   header-offset l = rw regroup (be-beBytes 4 offset front rest 20 front-length l)
 
   -- The checksum is written 0.

@@ -31,7 +31,7 @@ part-of-first l n k m h f = window m k (take n l) l (omega (arith, length-take-l
 -- The content of a component that was found is the part of the image that its numbers tell.
 pub record Located (i s : List ℕ) (t : Taken) : Type 0 where
   pub content : partOf i (contentPlace t) (t .header .len) ≡ s
-  length-is : length s ≡ t .header .len
+  pub length-is : length s ≡ t .header .len
   pub within : contentPlace t + t .header .len ≤ length i
 
 pub inside : (i s : List ℕ) (t : Taken) → Located i s t → Inside i s t

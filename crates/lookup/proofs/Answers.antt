@@ -12,13 +12,13 @@ use Rattle.walk.specs.declared.Taken.{Taken}
 use Rattle.lookup.specs.declared.Found.the-variants.{At, Refused}
 
 -- The first of a list is one of it.
-first-member : (l : List Entry) (e : Entry) → foremost l ≡ gives e → List·Memᴰ e l
+pub first-member : (l : List Entry) (e : Entry) → foremost l ≡ gives e → List·Memᴰ e l
 unfolding foremost
 first-member [] e q = let z : _≡_ {A = ℕ} 0 1 = cc in absurd (omega arith)
 first-member (x ∷ l) e q = List·Memᴰ·head {x = x} (cc)
 
 -- The only one of a list is one of it.
-only-member : (l : List Entry) (e : Entry) → only l ≡ gives e → List·Memᴰ e l
+pub only-member : (l : List Entry) (e : Entry) → only l ≡ gives e → List·Memᴰ e l
 unfolding only
 only-member [] e q = let z : _≡_ {A = ℕ} 0 1 = cc in absurd (omega arith)
 only-member (x ∷ []) e q = List·Memᴰ·head {x = x} (cc)

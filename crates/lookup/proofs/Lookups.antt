@@ -23,7 +23,7 @@ module _ (g : Bool) (r : List ℕ) (a n : ℕ) (name : List ℕ) where
   unfolding bearersFrom keep
   bearers-end s = rw (rest-none (pickOf g r a) r a n s)
 
-  bearers-here : (e : Entry) → step (pickOf g r a) r a n ≡ some e → bearersFrom (pickOf g r a) r a name n ≡ cond (bears name e) (e ∷ bearersFrom (pickOf g r a) r a name (next r a e)) (bearersFrom (pickOf g r a) r a name (next r a e))
+  pub bearers-here : (e : Entry) → step (pickOf g r a) r a n ≡ some e → bearersFrom (pickOf g r a) r a name n ≡ cond (bears name e) (e ∷ bearersFrom (pickOf g r a) r a name (next r a e)) (bearersFrom (pickOf g r a) r a name (next r a e))
   unfolding bearersFrom keep
   bearers-here e s = let pos = stands g r a n e s .pos in rw (rest-some (pickOf g r a) r a pos (pick-fits g r a pos) n e s)
 
@@ -84,7 +84,7 @@ module _ (g : Bool) (r : List ℕ) (a : ℕ) (name : List ℕ) where
   after-from zero n h e f = absurd (Option·none-ne-some e (ap firstOf (sym (bearers-end g r a n name (step-past (pickOf g r a) r a n (omega arith)))) ∙ f))
   after-from (suc d) n h e f = after-one n (λ m l. after-from d m (omega arith)) e f
 
-  bearers-after : (n : ℕ) → After n
+  pub bearers-after : (n : ℕ) → After n
   bearers-after n = after-from (suc (length r)) n (omega arith)
 
   -- The guarded lookup, by the first bearer and by the first one after it.

@@ -23,14 +23,14 @@ le-past (suc w) s i h = rw (le-past w s (i + 1) (omega arith), List·getD-eq-def
 
 -- A number of m + n bytes is made of one of m and one of n.
 
-be-split : (m n : ℕ) (s : List ℕ) (i : ℕ) → be (m + n) s i ≡ be m s i * 256 ^ n + be n s (i + m)
+pub be-split : (m n : ℕ) (s : List ℕ) (i : ℕ) → be (m + n) s i ≡ be m s i * 256 ^ n + be n s (i + m)
 unfolding be
 be-split m zero s i = rw add-zero (omega arith)
 be-split m (suc n) s i =
     let e : i + (m + n) ≡ i + m + n = omega arith in
     rw (add-suc m n, be-split m n s i, e, pow-suc 256 n) (omega arith)
 
-le-split : (m n : ℕ) (s : List ℕ) (i : ℕ) → le (m + n) s i ≡ le m s i + le n s (i + m) * 256 ^ m
+pub le-split : (m n : ℕ) (s : List ℕ) (i : ℕ) → le (m + n) s i ≡ le m s i + le n s (i + m) * 256 ^ m
 unfolding le
 le-split zero n s i = rw (zero-add n, add-zero i) (omega arith)
 le-split (suc m) n s i =
@@ -106,7 +106,7 @@ unfolding beBytes
 length-beBytes zero v = refl
 length-beBytes (suc w) v = simp length-append (omega (arith, length-beBytes w (v / 256)))
 
-length-leBytes : (w v : ℕ) → length (leBytes w v) ≡ w
+pub length-leBytes : (w v : ℕ) → length (leBytes w v) ≡ w
 unfolding leBytes
 length-leBytes zero v = refl
 length-leBytes (suc w) v = ap suc (length-leBytes w (v / 256))

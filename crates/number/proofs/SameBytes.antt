@@ -22,7 +22,7 @@ eq-length (x ∷ a) (y ∷ b) h = rw (eq-length a b (λ e. h (ap suc e))) (cond-
     cond-false true = refl
     cond-false false = refl
 
-eq-here : (a b : List ℕ) (i : ℕ) → i < length a → i < length b → getD a i 0 ≡ getD b i 0
+pub eq-here : (a b : List ℕ) (i : ℕ) → i < length a → i < length b → getD a i 0 ≡ getD b i 0
     → eqBytes (drop i a) (drop i b) ≡ eqBytes (drop (i + 1) a) (drop (i + 1) b)
 unfolding eqBytes
 eq-here a b i ha hb e = rw (add-one, drop-cons a i 0 ha, drop-cons b i 0 hb, eq-eqb (getD a i 0) (getD b i 0) e)

@@ -51,7 +51,7 @@ unfolding splice
 splice-length d at ys h = simp (length-append, length-drop, length-take-le at d (omega arith)) (omega arith)
 
 -- a write that goes on where the last one ended
-splice-after : (d : List ℕ) (at : ℕ) (p : List ℕ) (m : ℕ) (ys : List ℕ) → at + length p ≤ length d → at + length p ≡ m
+pub splice-after : (d : List ℕ) (at : ℕ) (p : List ℕ) (m : ℕ) (ys : List ℕ) → at + length p ≤ length d → at + length p ≡ m
     → splice (splice d at p) m ys ≡ splice d at (p ++ ys)
 unfolding splice
 splice-after d at p m ys h e =

@@ -63,7 +63,7 @@ module _ {ℓ} {A : Type ℓ} where
           by (inr n) = (List·Memᴰ·tail (ih n .0), ih n .1)
       go false q m′ ih = (List·Memᴰ·tail (ih m′ .0), ih m′ .1)
 
-  keep-mem : (f : A → Bool) (l : List A) (x : A) → List·Memᴰ x l → f x ≡ true → List·Memᴰ x (keep f l)
+  pub keep-mem : (f : A → Bool) (l : List A) (x : A) → List·Memᴰ x l → f x ≡ true → List·Memᴰ x (keep f l)
   unfolding keep
   keep-mem f [] x m e = absurd (List·Memᴰ·not-nil m)
   keep-mem f (y ∷ ys) x m e = go (List·Memᴰ·cases-cons m) (λ m′. keep-mem f ys x m′ e)
@@ -136,12 +136,12 @@ module _ {ℓ} {A : Type ℓ} where
 
   -- An element of the list stands at an index, and the other way round.
 
-  nth-mem : (d : A) (l : List A) (k : ℕ) → k < length l → List·Memᴰ (getD l k d) l
+  pub nth-mem : (d : A) (l : List A) (k : ℕ) → k < length l → List·Memᴰ (getD l k d) l
   nth-mem d [] k h = absurd (omega arith)
   nth-mem d (x ∷ l) zero h = List·Memᴰ·head refl
   nth-mem d (x ∷ l) (suc k) h = List·Memᴰ·tail (nth-mem d l k (omega arith))
 
-  mem-nth : (d : A) (l : List A) (x : A) → List·Memᴰ x l → (k : ℕ) × (k < length l) × (getD l k d ≡ x)
+  pub mem-nth : (d : A) (l : List A) (x : A) → List·Memᴰ x l → (k : ℕ) × (k < length l) × (getD l k d ≡ x)
   mem-nth d [] x m = absurd (List·Memᴰ·not-nil m)
   mem-nth d (y ∷ l) x m = go (List·Memᴰ·cases-cons m) (mem-nth d l x)
     where

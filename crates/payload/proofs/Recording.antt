@@ -29,7 +29,7 @@ module _ (at l : ℕ) (x : Segment) where
   unfolding typeTests
   hands e = rw e
 
-  enters : x .kind ≡ entryType → typeTests at l x ≡ []
+  pub enters : x .kind ≡ entryType → typeTests at l x ≡ []
   unfolding typeTests
   enters e = rw e
 

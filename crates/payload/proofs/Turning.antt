@@ -25,12 +25,12 @@ unfoldable pub segmentsAt : List ℕ → ℕ → ℕ → ℕ → List Segment
 segmentsAt s o zero p = []
 segmentsAt s o (suc k) p = segmentAt s o p ∷ segmentsAt s o k (p + 28)
 
-segments-length : (s : List ℕ) (o k p : ℕ) → length (segmentsAt s o k p) ≡ k
+pub segments-length : (s : List ℕ) (o k p : ℕ) → length (segmentsAt s o k p) ≡ k
 unfolding segmentsAt
 segments-length s o zero p = refl
 segments-length s o (suc k) p = ap suc (segments-length s o k (p + 28))
 
-segments-last : (s : List ℕ) (o k p : ℕ) → segmentsAt s o (suc k) p ≡ segmentsAt s o k p ++ (segmentAt s o (p + 28 * k) ∷ [])
+pub segments-last : (s : List ℕ) (o k p : ℕ) → segmentsAt s o (suc k) p ≡ segmentsAt s o k p ++ (segmentAt s o (p + 28 * k) ∷ [])
 unfolding segmentsAt
 segments-last s o zero p = let e : p ≡ p + 28 * 0 = omega arith in ap (λ (q : ℕ). segmentAt s o q ∷ []) e
 segments-last s o (suc k) p =
@@ -44,7 +44,7 @@ segments-snoc s o i =
     rw (e, segments-last s o i 0, f)
 
 -- No test of a record refuses by 0.
-type-numbered : (at l : ℕ) (x : Segment) → numbered (typeTests at l x) ≡ true
+pub type-numbered : (at l : ℕ) (x : Segment) → numbered (typeTests at l x) ≡ true
 unfolding typeTests loadTests bssTests paramsTests
 type-numbered at l x =
     either (eqb (x .kind) codeType) (loadTests at l x) _ refl
@@ -63,14 +63,14 @@ record-numbered s at o p = type-numbered at (length s) (segmentAt s o p)
 
 -- What the judge's answer tells.
 
-judged-refused : (n : ℕ) (x : Segment) (m : ℕ) → judgedBy n x ≡ Refused m → (n ≡ m) × (m ≡ 0 → ⊥)
+pub judged-refused : (n : ℕ) (x : Segment) (m : ℕ) → judgedBy n x ≡ Refused m → (n ≡ m) × (m ≡ 0 → ⊥)
 judged-refused n x m e = go (eqb n 0) refl e
   where
     go : (b : Bool) → eqb n 0 ≡ b → cond b (Fits x) (Refused n) ≡ Refused m → (n ≡ m) × (m ≡ 0 → ⊥)
     go true q f = let z : _≡_ {A = ℕ} 0 1 = cc in absurd (omega arith)
     go false q f = let z : n ≡ m = cc in (z, λ y. eqb-false n 0 q (z ∙ y))
 
-judged-fits : (n : ℕ) (x y : Segment) → judgedBy n x ≡ Fits y → (n ≡ 0) × (x ≡ y)
+pub judged-fits : (n : ℕ) (x y : Segment) → judgedBy n x ≡ Fits y → (n ≡ 0) × (x ≡ y)
 judged-fits n x y e = go (eqb n 0) refl e
   where
     go : (b : Bool) → eqb n 0 ≡ b → cond b (Fits x) (Refused n) ≡ Fits y → (n ≡ 0) × (x ≡ y)
@@ -97,7 +97,7 @@ from-open s o i p h = rw (one-more i h)
 
 -- After i records, none of them refused and none an ENTRY.
 pub record Going (s : List ℕ) (at o i : ℕ) (all : List Segment) : Type 0 where
-  upto : i ≤ 16
+  pub upto : i ≤ 16
   pub stored : all ≡ padded most unused (segmentsAt s o i 0)
   pub refusal : firstFailed (turnTests s at o 16 0 []) ≡ firstFailed (turnTests s at o (16 - i) (28 * i) (segmentsAt s o i 0))
   pub segments : segmentsFrom s o 16 0 ≡ segmentsAt s o i 0 ++ segmentsFrom s o (16 - i) (28 * i)

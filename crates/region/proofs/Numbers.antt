@@ -50,7 +50,7 @@ module _ (g : Region) (n : ℕ) where
   fit-from e = (leb-true _ _ (passes 0 (tests g n) e), leb-true _ _ (passes 1 (tests g n) e))
 
 -- Places counted from a start that is a multiple of the alignment are the multiples of the alignment.
-same-places : (a s p : ℕ) → s % a ≡ 0 → s ≤ p → (p - s) % a ≡ p % a
+pub same-places : (a s p : ℕ) → s % a ≡ 0 → s ≤ p → (p - s) % a ≡ p % a
 same-places a s p z h = go (p - s) (omega arith)
   where
     go : (d : ℕ) → p ≡ s + d → d % a ≡ p % a

@@ -46,7 +46,7 @@ module _ (r : List ℕ) (a : ℕ) where
 
   -- Free runs.
 
-  runs-last : (n m : ℕ) → step (plain r) r a m ≡ none → lowest n (runs r a m (L m)) ≡ lowest n (run m (length r) ∷ [])
+  pub runs-last : (n m : ℕ) → step (plain r) r a m ≡ none → lowest n (runs r a m (L m)) ≡ lowest n (run m (length r) ∷ [])
   unfolding runs
   runs-last n m e = rw (listed-none m e)
 

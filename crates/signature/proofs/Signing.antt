@@ -68,13 +68,13 @@ module _ (s : List ℕ) where
   abbrev pub first : ℕ → ℕ
   first n = firstOr (length s) (signaturesFrom s n)
 
-  signs-first : (n : ℕ) → first n < length s → signaturesFrom s n ≡ first n ∷ signaturesFrom s (first n + 64)
+  pub signs-first : (n : ℕ) → first n < length s → signaturesFrom s n ≡ first n ∷ signaturesFrom s (first n + 64)
   signs-first = by-places (λ n. first n < length s → signaturesFrom s n ≡ first n ∷ signaturesFrom s (first n + 64))
       (λ p h k. absurd (omega (arith, rw (signs-end p h) at k)))
       (λ p h y ih k. rw (signs-here p h y))
       (λ p h y ih k. rw (signs-not p h y) (ih (rw (signs-not p h y) at k)))
 
-  signs-none : (n : ℕ) → length s ≤ first n → signaturesFrom s n ≡ []
+  pub signs-none : (n : ℕ) → length s ≤ first n → signaturesFrom s n ≡ []
   signs-none = by-places (λ n. length s ≤ first n → signaturesFrom s n ≡ [])
       (λ p h k. signs-end p h)
       (λ p h y ih k. absurd (omega (arith, rw (signs-here p h y) at k)))

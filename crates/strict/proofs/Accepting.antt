@@ -26,7 +26,7 @@ use Rattle.strict.proofs.Bearing.{only-one, lone, first-only}
 use Rattle.strict.proofs.Frames.{Frame, guarded-mem, same-rest, same-listed}
 use Rattle.strict.proofs.Slots.{slot-frame, spoiled-inside}
 
-mem-takes : (l : List Entry) (t : Entry) → List·Memᴰ t l → takes l (t .place) ≡ true
+pub mem-takes : (l : List Entry) (t : Entry) → List·Memᴰ t l → takes l (t .place) ≡ true
 unfolding takes
 mem-takes l t m = mem-any (λ u. eqb (u .place) (t .place)) l t m (eq-eqb (t .place) (t .place) refl)
 

@@ -43,7 +43,7 @@ kept-first f a (suc k) n p ps e = go (f n) refl e (kept-first f a k (n + a) p ps
         by q z (inl h) j = absurd (true≢false (sym z ∙ rw h y))
         by q z (inr m) j = j m z
 
-no-strays : (r : List ℕ) (a : ℕ) → a ≡ 0 → strays r a ≡ []
+pub no-strays : (r : List ℕ) (a : ℕ) → a ≡ 0 → strays r a ≡ []
 unfolding strays places keep
 no-strays r a z = rw (z, no-places (length r))
 

@@ -197,7 +197,7 @@ module _ (set : ℕ → Bool) (e : ℕ) where
       go (inr n) = omega (arith, up .0 t n)
 
   -- The start of a component lies in its own slot.
-  within-own : (l : List Entry) → Rising l → (t : Entry) → List·Memᴰ t l → t .place < e → within set e l (t .place) ≡ set (t .place)
+  pub within-own : (l : List Entry) → Rising l → (t : Entry) → List·Memᴰ t l → t .place < e → within set e l (t .place) ≡ set (t .place)
   unfolding within
   within-own [] up t m lt = absurd (List·Memᴰ·not-nil m)
   within-own (x ∷ xs) up t m lt = go (List·Memᴰ·cases-cons m) (λ n. within-own xs (up .1) t n lt)

@@ -45,7 +45,7 @@ abbrev pub plainFrom : List ℕ → ℕ → ℕ → List Entry
 plainFrom r a n = listingFrom (plain r) r a n
 
 -- Where a step gives the same, so does the listing.
-list-same : (r : List ℕ) (a n m : ℕ) → step (plain r) r a n ≡ step (plain r) r a m → plainFrom r a n ≡ plainFrom r a m
+pub list-same : (r : List ℕ) (a n m : ℕ) → step (plain r) r a n ≡ step (plain r) r a m → plainFrom r a n ≡ plainFrom r a m
 list-same r a n m s = go (step (plain r) r a n) refl (decLt 0 a)
   where
     go : (o : Option Entry) → step (plain r) r a n ≡ o → Dec (0 < a) → plainFrom r a n ≡ plainFrom r a m
@@ -162,7 +162,7 @@ module _ (r : List ℕ) (a : ℕ) (pos : 0 < a) where
 
 -- From any number the strays are those from the next magic on; with none left there are none.
 
-from-hunt : (r : List ℕ) (a n : ℕ) → straysFrom r a n ≡ straysFrom r a (nextMagic r a n (length r))
+pub from-hunt : (r : List ℕ) (a n : ℕ) → straysFrom r a n ≡ straysFrom r a (nextMagic r a n (length r))
 unfolding straysFrom
 from-hunt r a n = go (decLt 0 a)
   where

@@ -40,7 +40,7 @@ clash x y p q h = h (ap number (sym p ∙ q))
 
 module _ (most : ℕ) (r : List ℕ) (a : ℕ) where
   -- 12, with the lowest stray place; whatever else holds.
-  refused-12 : (p : ℕ) → (verdict most r a ≡ refused 12 p) ↔ ((ps : List ℕ) × (strays r a ≡ p ∷ ps))
+  pub refused-12 : (p : ℕ) → (verdict most r a ≡ refused 12 p) ↔ ((ps : List ℕ) × (strays r a ≡ p ∷ ps))
   unfolding verdict
   refused-12 p = (go (by-case most (strays r a) (plainListing r a)), λ s. unfold decide in rw (s .1))
     where

@@ -23,7 +23,7 @@ length-pairs [] = refl
 length-pairs (b ∷ s) = omega (arith, length-pairs s)
 
 -- The two digits of the byte at i.
-pairs-at : (s : List ℕ) (i : ℕ) → i < length s
+pub pairs-at : (s : List ℕ) (i : ℕ) → i < length s
     → (getD (pairs s) (2 * i) 0 ≡ digitOf 97 (getD s i 0 / 16 % 16)) × (getD (pairs s) (2 * i + 1) 0 ≡ digitOf 97 (getD s i 0 % 16))
 unfolding digits pairs
 pairs-at [] i h = absurd (not-suc-le-zero h)

@@ -28,7 +28,7 @@ pub carries-local : (r r′ : List ℕ) (p : ℕ) → length r′ ≡ length r �
 unfolding carries startsWithMagic
 carries-local r r′ p l h = rw (window 8 p r′ r (rw l) (λ j j< k. h (p + j) (omega arith) (omega arith) (omega arith)))
 
-plain-carries : (r : List ℕ) (p : ℕ) (h : Component) → plain r p ≡ some h → carries r p ≡ true
+pub plain-carries : (r : List ℕ) (p : ℕ) (h : Component) → plain r p ≡ some h → carries r p ≡ true
 unfolding plain carries
 plain-carries r p h e = judge-magic (drop p r) h e
 

@@ -22,7 +22,7 @@ module _ (a : ℕ) (pos : 0 < a) where
   unfolding placesBelow
   below-lt n = omega (arith, div-add-mod' (n + (a - 1)) a)
 
-  place-le : (c i : ℕ) → c * a < i * a + a → c * a ≤ i * a
+  pub place-le : (c i : ℕ) → c * a < i * a + a → c * a ≤ i * a
   place-le c i h =
       let k : c < suc i = lt-of-mul-lt-mul-right a {m = c} {n = suc i} (omega arith) in
       mul-le-mul-right {m = c} {n = i} a (omega arith)

@@ -54,7 +54,7 @@ unfolding guarded unless
 pick-buried r a p c j b = rw (j, b)
 
 module _ (g : Bool) (r : List ℕ) (a : ℕ) where
-  pick-quiet : 0 < a → (p : ℕ) → carries r p ≡ false → pickOf g r a p ≡ none
+  pub pick-quiet : 0 < a → (p : ℕ) → carries r p ≡ false → pickOf g r a p ≡ none
   pick-quiet pos p e = go g
     where
       go : (g : Bool) → pickOf g r a p ≡ none

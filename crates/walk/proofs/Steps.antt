@@ -43,11 +43,11 @@ unfoldable pub allFrom : Pick → List ℕ → ℕ → ℕ → List Entry
 allFrom pick r a n = picked pick (places a (placesBelow a (length r - n)) n)
 
 module _ (pick : Pick) (r : List ℕ) (a : ℕ) (pos : 0 < a) where
-  allFrom-end : (n : ℕ) → length r ≤ n → allFrom pick r a n ≡ []
+  pub allFrom-end : (n : ℕ) → length r ≤ n → allFrom pick r a n ≡ []
   unfolding allFrom picked places
   allFrom-end n h = rw (below-end a pos (length r) n h)
 
-  allFrom-next : (n : ℕ) → n < length r → allFrom pick r a n ≡ prepend n (pick n) (allFrom pick r a (n + a))
+  pub allFrom-next : (n : ℕ) → n < length r → allFrom pick r a n ≡ prepend n (pick n) (allFrom pick r a (n + a))
   unfolding allFrom picked places
   allFrom-next n h = rw (below-next a pos (length r) n h)
 
@@ -96,12 +96,12 @@ module _ (pick : Pick) (r : List ℕ) (a : ℕ) (pos : 0 < a) where
   unfolding step
   step-some n t e = first-some (placesBelow a (length r - n)) n refl t e
 
-  step-none : (n : ℕ) → step pick r a n ≡ none → allFrom pick r a n ≡ []
+  pub step-none : (n : ℕ) → step pick r a n ≡ none → allFrom pick r a n ≡ []
   unfolding step
   step-none n e = first-none (placesBelow a (length r - n)) n refl e
 
   -- Places below b at which nothing may be taken are passed over.
-  skip : (c p b : ℕ) → Place a p → p + c * a ≡ placesBelow a b * a → ((x : ℕ) → Place a x → p ≤ x → x < b → pick x ≡ none)
+  pub skip : (c p b : ℕ) → Place a p → p + c * a ≡ placesBelow a b * a → ((x : ℕ) → Place a x → p ≤ x → x < b → pick x ≡ none)
       → allFrom pick r a p ≡ allFrom pick r a (onward r a b)
   unfolding onward prepend
   skip zero p b pl e h = go (decLe p (length r))
@@ -127,7 +127,7 @@ module _ (pick : Pick) (r : List ℕ) (a : ℕ) (pos : 0 < a) where
   first-place n t (inl pl) f = (pl .0 + f .skipped, omega (arith, pl .1))
   first-place n t (inr h) f = absurd (omega (arith, f .at, f .inside))
 
-  steps-all : Fits → Exclusive → (k n : ℕ) → Stop r a n → length r - n ≤ k → steps pick r a k n ≡ allFrom pick r a n
+  pub steps-all : Fits → Exclusive → (k n : ℕ) → Stop r a n → length r - n ≤ k → steps pick r a k n ≡ allFrom pick r a n
   unfolding steps follow
   steps-all fits excl zero n s h = sym (allFrom-end n (omega arith))
   steps-all fits excl (suc k) n s h = go (step pick r a n) refl (λ m s′ h′. steps-all fits excl k m s′ h′)
