@@ -60,7 +60,7 @@ module _ {A : Type 0} (number : A → ℕ) (refusal : Refusal → A) (told : (r 
 module _ {A : Type 0} (refusal : Refusal → A) (plan : Taken → List ℕ → A) (i : List ℕ) (g : Region) (name : List ℕ) {f : Found} (e : f ≡ findIn true i g name) where
   module _ {t : Taken} (h : f ≡ At t) where
     pub place : Located i (contentIn true i g name) t
-    place = located i g name t (sym e ∙ h)
+    place = located i g true name t (sym e ∙ h)
 
     pub plan-found : {p : A} → p ≡ plan t (partOf i (contentPlace t) (t .header .len)) → p ≡ planFor (findIn true i g name) refusal (λ t. plan t (contentIn true i g name))
     plan-found q = q ∙ rw (place .content, ← e, h)

@@ -57,10 +57,39 @@ abbrev pub found : List ℕ → ℕ → Answer → Found
 found r a (refused n) = Refused n
 found r a (gives t) = At (takenOf r a t)
 
--- For what is promised: e bears the name, and nobody does before it.
+-- For what is promised, of a list l of components.
+
+-- "The bearers are the components in the listing of that walk whose name is this one, byte for byte": t is one; there is none.
+
+abbrev pub Bearer : List Entry → List ℕ → Entry → Type 0
+Bearer l name t = List·Memᴰ t l × (t .component .name ≡ name)
+
+abbrev pub Nobody : List Entry → List ℕ → Type 0
+Nobody l name = (t : Entry) → Bearer l name t → ⊥
+
+-- e bears the name, and nobody does before it.
 pub record FirstBearer (name : List ℕ) (l : List Entry) (e : Entry) : Type 0 where
   pub before : List Entry
   pub after : List Entry
   pub split : l ≡ before ++ (e ∷ after)
-  pub bearing : bears name e ≡ true
-  pub nobody : (x : Entry) → List·Memᴰ x before → bears name x ≡ false
+  pub named : e .component .name ≡ name
+  pub nobody : Nobody before name
+
+-- e bears the name, and nobody else does.
+pub record OnlyBearer (name : List ℕ) (l : List Entry) (e : Entry) : Type 0 where
+  pub first : FirstBearer name l e
+  pub nobody-after : Nobody (first .after) name
+
+-- Two components have the same name.
+pub record TwoAlike (l : List Entry) : Type 0 where
+  pub before : List Entry
+  pub one : Entry
+  pub between : List Entry
+  pub other : Entry
+  pub after : List Entry
+  pub split : l ≡ before ++ (one ∷ (between ++ (other ∷ after)))
+  pub same : one .component .name ≡ other .component .name
+
+-- Two components bear this name.
+abbrev pub TwoBearers : List ℕ → List Entry → Type 0
+TwoBearers name l = (w : TwoAlike l) × (w .one .component .name ≡ name)

@@ -1,10 +1,10 @@
 -- Laws of lists by a Boolean test: told by the elements, and by the index.
 use Prim.Native.Nat.{ℕ, zero, suc, _≤_, _<_}
 use native.Mathlib.Omega.{arith}
-use mathlib.Core.Path.{_≡_, refl, sym, _∙_}
+use mathlib.Core.Path.{_≡_, refl, sym, ap, _∙_}
 use mathlib.Core.Logic.{_⊎_, inl, inr}
 use mathlib.Core.Bool.{Bool, true, false, cond, not, _&&_, _||_, true≢false, false≢true}
-use mathlib.Core.List.{List, [], _∷_, List·Memᴰ, List·Memᴰ·head, List·Memᴰ·tail, List·Memᴰ·not-nil, List·Memᴰ·cases-cons}
+use mathlib.Core.List.{List, [], _∷_, _++_, nil≢cons, head-eq-of-cons-eq, tail-eq-of-cons-eq, List·Memᴰ, List·Memᴰ·head, List·Memᴰ·tail, List·Memᴰ·not-nil, List·Memᴰ·cases-cons}
 use lib.ListN.{length, getD}
 use borrow.Author.Tests.{not-true}
 use Rattle.number.specs.Lists.{any, keep, noTwo}
@@ -101,6 +101,53 @@ module _ {ℓ} {A : Type ℓ} where
       go : (b : Bool) → length (keep f xs) ≤ length xs → length (cond b (x ∷ keep f xs) (keep f xs)) ≤ suc (length xs)
       go true ih = omega arith
       go false ih = omega arith
+
+  -- Where the first that is kept stands: nothing before it is kept, and the rest after it.
+  pub record FirstKept (f : A → Bool) (l : List A) (x : A) (rest : List A) : Type ℓ where
+    pub before : List A
+    pub after : List A
+    pub split : l ≡ before ++ (x ∷ after)
+    pub passed : f x ≡ true
+    pub none : (y : A) → List·Memᴰ y before → f y ≡ false
+    pub others : keep f after ≡ rest
+
+  pub first-kept : (f : A → Bool) (l : List A) (x : A) (rest : List A) → keep f l ≡ x ∷ rest → FirstKept f l x rest
+  unfolding keep
+  first-kept f [] x rest e = absurd (nil≢cons e)
+  first-kept f (y ∷ ys) x rest e = go (f y) refl e (first-kept f ys x rest)
+    where
+      go : (b : Bool) → f y ≡ b → cond b (y ∷ keep f ys) (keep f ys) ≡ x ∷ rest → (keep f ys ≡ x ∷ rest → FirstKept f ys x rest) → FirstKept f (y ∷ ys) x rest
+      go true q g ih = let h : y ≡ x = head-eq-of-cons-eq g in record {
+        before = [];
+        after = ys;
+        split = ap (λ (z : A). z ∷ ys) h;
+        passed = rw (← h) q;
+        none = λ z m. absurd (List·Memᴰ·not-nil m);
+        others = tail-eq-of-cons-eq g;
+      }
+      go false q g ih = let k = ih g in record {
+        before = y ∷ k .before;
+        after = k .after;
+        split = ap (λ (zs : List A). y ∷ zs) (k .split);
+        passed = k .passed;
+        none = λ z m. by z (k .none) (List·Memᴰ·cases-cons m);
+        others = k .others;
+      }
+        where
+          by : {b : List A} (z : A) → ((w : A) → List·Memᴰ w b → f w ≡ false) → (z ≡ y) ⊎ List·Memᴰ z b → f z ≡ false
+          by z n (inl r) = rw r q
+          by z n (inr m) = n z m
+
+  -- An element that is kept adds one to what is kept after it.
+  pub kept-more : (f : A → Bool) (xs : List A) (x : A) (ys : List A) → f x ≡ true → suc (length (keep f ys)) ≤ length (keep f (xs ++ (x ∷ ys)))
+  unfolding keep
+  kept-more f [] x ys e = rw e (omega arith)
+  kept-more f (z ∷ xs) x ys e = go (f z) (kept-more f xs x ys e)
+    where
+      go : (b : Bool) → suc (length (keep f ys)) ≤ length (keep f (xs ++ (x ∷ ys)))
+          → suc (length (keep f ys)) ≤ length (cond b (z ∷ keep f (xs ++ (x ∷ ys))) (keep f (xs ++ (x ∷ ys))))
+      go true ih = omega arith
+      go false ih = ih
 
   pub two-keep : (t : A → A → Bool) (f : A → Bool) (l : List A) → noTwo t l ≡ true → noTwo t (keep f l) ≡ true
   unfolding keep noTwo
