@@ -1,3 +1,4 @@
 pub mod Naming
 pub mod Judging
+pub mod Exactly
 pub mod Worked

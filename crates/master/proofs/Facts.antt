@@ -20,7 +20,7 @@ use Rattle.master.specs.declared.Master.the-variants.{Read, Refused}
 use Rattle.master.proofs.Power.{one-bit}
 use Rattle.master.proofs.Refusing.{length-bounds, header-room}
 
-read-some : (i : List ℕ) (g : Region) → master i ≡ Read g → (refusal i ≡ 0) × (regionOf i ≡ g)
+pub read-some : (i : List ℕ) (g : Region) → master i ≡ Read g → (refusal i ≡ 0) × (regionOf i ≡ g)
 unfolding master
 read-some i g e = go (eqb (refusal i) 0) refl e
   where

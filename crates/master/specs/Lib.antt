@@ -1,1 +1,2 @@
 pub mod Master
+pub mod Table

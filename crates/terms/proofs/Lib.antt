@@ -1,2 +1,4 @@
 pub mod Orders
+pub mod Tables
 pub mod Regions
+pub mod Worked
