@@ -7,6 +7,7 @@ use lib.Dec.{lit≤}
 use Rattle.number.specs.Number.{be, beBytes}
 use Rattle.number.specs.Bytes.{eqBytes}
 use Rattle.number.specs.Tests.{all}
+use Rattle.bench_image.specs.BenchImage.{larchive, cal, log, head, slot0, slot192, region, regionA}
 use Rattle.component.specs.Names.{beforeZero, nameTests, nameFits, fieldTests, fieldFits}
 use Rattle.component.specs.Component.{magic, startsWithMagic, componentOf, headerTests, wellFormed, fields, judge}
 use Rattle.number.specs.Lists.{any, keep, noTwo}
@@ -22,16 +23,11 @@ offsets : offsetFor (replicate 15 0x78) ∷ offsetFor (replicate 16 0x78) ∷ of
 unfolding fieldSize
 offsets = refl
 
--- cal/12 (50) and cal/13 (51); log
-unfoldable pub cal : ℕ → List ℕ
-cal d = 99 ∷ 97 ∷ 108 ∷ 47 ∷ 49 ∷ d ∷ []
-
-unfoldable pub log : List ℕ
-log = 108 ∷ 111 ∷ 103 ∷ []
-
--- Bench image A's region.
-unfoldable pub regionA : List ℕ
-regionA = spanBytes (cal 50) 0xFFFFFFFF (replicate 100 0) ++ (replicate 52 0xFF ++ (spanBytes (cal 51) 0xFFFFFFFF (replicate 24 0) ++ replicate 2816 0xFF))
+-- Bench image A's components are what add writes.
+written-A : (spanBytes (cal 0x32) 0xFFFFFFFF (replicate 100 0) ++ replicate 52 0xFF) ++ (spanBytes (cal 0x33) 0xFFFFFFFF (replicate 24 0) ++ replicate 2816 0xFF)
+    ≡ regionA
+unfolding beBytes magic larchive cal head slot0 slot192 region fieldSize headerBytes fieldBytes spanBytes
+written-A = refl
 
 -- LARCHIVE from byte n of the content on.
 unfoldable pub hidingAt : ℕ → List ℕ
@@ -41,22 +37,22 @@ unfoldable here : ℕ → ℕ → ℕ → Entry
 here p d n = record { place = p; component = record { offset = 40; len = n; kind = 0xFFFFFFFF; name = cal d; content = replicate n 0 } }
 
 unfoldable listA : List Entry
-listA = here 0 50 100 ∷ here 192 51 24 ∷ []
+listA = here 0 0x32 100 ∷ here 192 0x33 24 ∷ []
 
 listed-64 : plainListing regionA 64 ≡ listA
-unfolding any keep be beBytes eqBytes magic startsWithMagic beforeZero all nameTests nameFits fieldTests fieldFits componentOf headerTests wellFormed fields judge placesBelow places carries plain orElse first onward step follow steps listingFrom bears takes stray strays noTwo fieldSize headerBytes fieldBytes spanBytes cal regionA here listA
+unfolding any keep be beBytes eqBytes magic startsWithMagic beforeZero all nameTests nameFits fieldTests fieldFits componentOf headerTests wellFormed fields judge placesBelow places carries plain orElse first onward step follow steps listingFrom bears takes stray strays noTwo fieldSize headerBytes fieldBytes spanBytes larchive cal head slot0 slot192 region here listA
 listed-64 = refl
 
 accepted-64 : Accepted regionA 64
-unfolding any keep be beBytes eqBytes magic startsWithMagic beforeZero all nameTests nameFits fieldTests fieldFits componentOf headerTests wellFormed fields judge placesBelow places carries plain orElse first onward step follow steps listingFrom bears takes stray strays noTwo fieldSize headerBytes fieldBytes spanBytes cal regionA here listA
+unfolding any keep be beBytes eqBytes magic startsWithMagic beforeZero all nameTests nameFits fieldTests fieldFits componentOf headerTests wellFormed fields judge placesBelow places carries plain orElse first onward step follow steps listingFrom bears takes stray strays noTwo fieldSize headerBytes fieldBytes spanBytes larchive cal head slot0 slot192 region here listA
 accepted-64 = record { all-taken = refl; few = lit≤ tt; told-apart = refl }
 
 listed-16 : plainListing regionA 16 ≡ listA
-unfolding any keep be beBytes eqBytes magic startsWithMagic beforeZero all nameTests nameFits fieldTests fieldFits componentOf headerTests wellFormed fields judge placesBelow places carries plain orElse first onward step follow steps listingFrom bears takes stray strays noTwo fieldSize headerBytes fieldBytes spanBytes cal regionA here listA
+unfolding any keep be beBytes eqBytes magic startsWithMagic beforeZero all nameTests nameFits fieldTests fieldFits componentOf headerTests wellFormed fields judge placesBelow places carries plain orElse first onward step follow steps listingFrom bears takes stray strays noTwo fieldSize headerBytes fieldBytes spanBytes larchive cal head slot0 slot192 region here listA
 listed-16 = refl
 
 accepted-16 : Accepted regionA 16
-unfolding any keep be beBytes eqBytes magic startsWithMagic beforeZero all nameTests nameFits fieldTests fieldFits componentOf headerTests wellFormed fields judge placesBelow places carries plain orElse first onward step follow steps listingFrom bears takes stray strays noTwo fieldSize headerBytes fieldBytes spanBytes cal regionA here listA
+unfolding any keep be beBytes eqBytes magic startsWithMagic beforeZero all nameTests nameFits fieldTests fieldFits componentOf headerTests wellFormed fields judge placesBelow places carries plain orElse first onward step follow steps listingFrom bears takes stray strays noTwo fieldSize headerBytes fieldBytes spanBytes larchive cal head slot0 slot192 region here listA
 accepted-16 = record { all-taken = refl; few = lit≤ tt; told-apart = refl }
 
 -- An edit of bench image A's region, from its listing.
@@ -84,31 +80,31 @@ and p q = rw (p, q)
 
 -- The bench cases, as one list of what is answered.
 pub bench :
-    replace 256 regionA 64 (cal 50) (replicate 152 0) .reply
-    ∷ replace 256 regionA 64 (cal 50) (replicate 153 0) .reply
+    replace 256 regionA 64 (cal 0x32) (replicate 152 0) .reply
+    ∷ replace 256 regionA 64 (cal 0x32) (replicate 153 0) .reply
     ∷ add 256 regionA 64 log 0x50 (replicate 2776 0) .reply
     ∷ add 256 regionA 64 log 0x50 (replicate 2777 0) .reply
     ∷ add 256 regionA 64 log 0x50 (hidingAt 24) .reply
     ∷ add 256 regionA 64 log 0x50 (hidingAt 25) .reply
-    ∷ remove 256 regionA 64 (cal 51) .reply
+    ∷ remove 256 regionA 64 (cal 0x33) .reply
     ∷ remove 256 regionA 64 log .reply
     ∷ replace 256 regionA 64 log [] .reply
-    ∷ add 256 regionA 64 (cal 50) 0x50 [] .reply
+    ∷ add 256 regionA 64 (cal 0x32) 0x50 [] .reply
     ∷ add 256 regionA 64 [] 0x50 [] .reply
     ∷ add 256 regionA 16 (replicate 8 0x78 ++ magic) 0x50 [] .reply
     ∷ []
     ≡ done 0 ∷ refusal 17 0 ∷ done 256 ∷ refusal 17 0 ∷ refusal 16 0 ∷ done 256 ∷ done 192 ∷ refusal 10 0 ∷ refusal 10 0 ∷ refusal 15 0 ∷ refusal 14 0 ∷ refusal 16 0 ∷ []
-unfolding any beBytes eqBytes magic startsWithMagic all nameTests nameFits placesBelow places carries buried onward bears start fieldSize headerBytes fieldBytes spanBytes buries runs lowest slotOf adding renewing clearing carriedOut cal log hidingAt regionA here listA
+unfolding any beBytes eqBytes magic startsWithMagic all nameTests nameFits placesBelow places carries buried onward bears start fieldSize headerBytes fieldBytes spanBytes buries runs lowest slotOf adding renewing clearing carriedOut larchive cal head slot0 slot192 region log hidingAt here listA
 bench =
-    and (told (replaces (cal 50) (replicate 152 0))) (
-    and (told (replaces (cal 50) (replicate 153 0))) (
+    and (told (replaces (cal 0x32) (replicate 152 0))) (
+    and (told (replaces (cal 0x32) (replicate 153 0))) (
     and (told (adds log 0x50 (replicate 2776 0))) (
     and (told (adds log 0x50 (replicate 2777 0))) (
     and (told (adds log 0x50 (hidingAt 24))) (
     and (told (adds log 0x50 (hidingAt 25))) (
-    and (told (removes (cal 51))) (
+    and (told (removes (cal 0x33))) (
     and (told (removes log)) (
     and (told (replaces log [])) (
-    and (told (adds (cal 50) 0x50 [])) (
+    and (told (adds (cal 0x32) 0x50 [])) (
     and (told (adds [] 0x50 [])) (
     and (told (names (replicate 8 0x78 ++ magic))) refl)))))))))))

@@ -3,7 +3,6 @@ use Prim.Native.Nat.{ℕ, _≤_}
 use native.Mathlib.Omega.{arith}
 use mathlib.Core.Path.{_≡_, refl, sym, ap, _∙_}
 use mathlib.Core.List.{List, []}
-use mathlib.Core.Logic.{_⊎_, inl, inr}
 use mathlib.Core.Bool.{Bool, true, false}
 use mathlib.Core.Option.{Option, some, none}
 use lib.ListN.{length}
@@ -14,14 +13,11 @@ use Rattle.number.specs.Lists.{any}
 use Rattle.walk.specs.Walk.{Entry, plainListing}
 use Rattle.lookup.specs.Lookup.{bears}
 use Rattle.strict.specs.Strict.{Accepted, Verdict, refused, accepted, verdict, placesOf}
-use Rattle.strict.proofs.Verdicts.{accepted-exactly, no-other}
-use Rattle.edit.specs.Edit.{Run, holds, runs, lowest, Slot, slotOf, buries, spanBytes, Decision, refuse, write, afterCheck, adding, renewing, clearing, filled, refusal, done, carriedOut, Open, Addable}
+use Rattle.strict.proofs.Verdicts.{accepted-exactly}
+use Rattle.edit.specs.Edit.{Run, holds, runs, lowest, Slot, slotOf, buries, spanBytes, Decision, refuse, write, afterCheck, adding, renewing, clearing, filled, done, carriedOut, Open, Addable}
+use Rattle.edit.specs.Table.{decisionNumber}
 
 -- No decision is two of these.
-
-pub numberIn : Decision → ℕ
-numberIn (refuse n p) = n
-numberIn (write x s) = 0
 
 runIn : Decision → Run
 runIn (refuse n p) = record { from = 0; to = 0 }
@@ -32,8 +28,7 @@ bytesIn (refuse n p) = []
 bytesIn (write x s) = s
 
 pub clash : {d : Decision} (n p m q : ℕ) → d ≡ refuse n p → d ≡ refuse m q → (n ≡ m → ⊥) → ⊥
-unfolding numberIn
-clash n p m q u v h = h (ap numberIn (sym u ∙ v))
+clash n p m q u v h = h (ap decisionNumber (sym u ∙ v))
 
 pub not-write : {d : Decision} (n p : ℕ) (x : Run) (s : List ℕ) → d ≡ refuse n p → d ≡ write x s → ⊥
 not-write n p x s u v = let z : _≡_ {A = ℕ} 0 1 = cc in omega arith
@@ -42,27 +37,12 @@ pub same-write : {d : Decision} {x y : Run} {s t : List ℕ} → d ≡ write x s
 unfolding runIn bytesIn
 same-write u v = (ap runIn (sym u ∙ v), ap bytesIn (sym u ∙ v))
 
--- The reply tells the decision.
-
-pub refused-is : (r : List ℕ) (d : Decision) (n p : ℕ) → carriedOut r d .reply ≡ refusal n p → d ≡ refuse n p
-unfolding carriedOut
-refused-is r (refuse m q) n p e = cc
-refused-is r (write x s) n p e = let z : _≡_ {A = ℕ} 0 1 = cc in absurd (omega arith)
-
-pub is-refused : (r : List ℕ) (d : Decision) (n p : ℕ) → d ≡ refuse n p → carriedOut r d .reply ≡ refusal n p
-unfolding carriedOut
-is-refused r d n p e = rw e
+-- What a decision comes to.
 
 pub is-done : (r : List ℕ) (d : Decision) (x : Run) (s : List ℕ) → d ≡ write x s → carriedOut r d .reply ≡ done (x .from)
 unfolding carriedOut
 is-done r d x s e = rw e
 
--- A refused edit changes no byte.
-pub refused-same : (r : List ℕ) (d : Decision) (n p : ℕ) → carriedOut r d .reply ≡ refusal n p → carriedOut r d .bytes ≡ r
-unfolding carriedOut
-refused-same r d n p e = rw (refused-is r d n p e)
-
--- One that is done has written a slot.
 pub record Does (r : List ℕ) (d : Decision) (p : ℕ) : Type 0 where
   pub run : Run
   pub bytes : List ℕ
@@ -80,9 +60,6 @@ module _ (r : List ℕ) (a : ℕ) (d : Decision) where
   pub check-accepted : Accepted r a → afterCheck (verdict 256 r a) d ≡ d
   check-accepted acc = rw (accepted-exactly r a (placesOf (plainListing r a)) .1 (acc, refl))
 
-  pub check-refused : (n p : ℕ) → verdict 256 r a ≡ refused n p → afterCheck (verdict 256 r a) d ≡ refuse n p
-  check-refused n p e = rw e
-
   -- An edit is done on accepted regions only.
   pub check-write : (x : Run) (s : List ℕ) → afterCheck (verdict 256 r a) d ≡ write x s → Accepted r a × (d ≡ write x s)
   check-write x s e = go (verdict 256 r a) refl e
@@ -90,19 +67,6 @@ module _ (r : List ℕ) (a : ℕ) (d : Decision) where
       go : (v : Verdict) → verdict 256 r a ≡ v → afterCheck v d ≡ write x s → Accepted r a × (d ≡ write x s)
       go (refused n p) q e′ = absurd (not-write n p x s refl e′)
       go (accepted ps) q e′ = (accepted-exactly r a ps .0 q .0, e′)
-
-  -- So is it refused by any number but 12, 13 and 11.
-  pub check-late : (n p : ℕ) → (n ≡ 12 → ⊥) → (n ≡ 13 → ⊥) → (n ≡ 11 → ⊥) → afterCheck (verdict 256 r a) d ≡ refuse n p → Accepted r a × (d ≡ refuse n p)
-  check-late n p h k l e = go (verdict 256 r a) refl e
-    where
-      by : (m : ℕ) → m ≡ n → (q : ℕ) → (m ≡ 12) ⊎ ((m ≡ 13) × (q ≡ 0)) ⊎ ((m ≡ 11) × (q ≡ 0)) → ⊥
-      by m e′ q (inl x) = h (sym e′ ∙ x)
-      by m e′ q (inr (inl x)) = k (sym e′ ∙ x .0)
-      by m e′ q (inr (inr x)) = l (sym e′ ∙ x .0)
-
-      go : (v : Verdict) → verdict 256 r a ≡ v → afterCheck v d ≡ refuse n p → Accepted r a × (d ≡ refuse n p)
-      go (refused m q) w e′ = absurd (by m (unfold numberIn in ap numberIn e′) q (no-other 256 r a m q w))
-      go (accepted ps) w e′ = (accepted-exactly r a ps .0 w .0, e′)
 
 pub data AddCase (most : ℕ) (r : List ℕ) (a : ℕ) (name s : List ℕ) (l : List Entry) : Type 0 where
   unfit : nameFits name ≡ false → adding most r a name s l ≡ refuse 14 0 → AddCase most r a name s l

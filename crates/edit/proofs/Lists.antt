@@ -71,6 +71,17 @@ put-instead t (x ∷ xs) up u m e = go (List·Memᴰ·cases-cons m) (λ n. put-i
         let lt : x .place < t .place = omega (arith, up .0 u n) in
         rw (ne-eqb (x .place) (t .place) (λ z. omega arith), le-ltb (t .place) (x .place) (omega arith)) (ap (λ (w : List Entry). x ∷ w) (ih n))
 
+-- What was listed still is.
+pub put-mem : (t : Entry) (l : List Entry) (d : Entry) → List·Memᴰ d l → List·Memᴰ d (putIn t l)
+unfolding putIn
+put-mem t [] d m = absurd (List·Memᴰ·not-nil m)
+put-mem t (u ∷ us) d m = go (ltb (t .place) (u .place)) (List·Memᴰ·cases-cons m) (put-mem t us d)
+  where
+    go : (b : Bool) → (d ≡ u) ⊎ List·Memᴰ d us → (List·Memᴰ d us → List·Memᴰ d (putIn t us)) → List·Memᴰ d (cond b (t ∷ u ∷ us) (u ∷ putIn t us))
+    go true n ih = List·Memᴰ·tail m
+    go false (inl e) ih = List·Memᴰ·head e
+    go false (inr n) ih = List·Memᴰ·tail (ih n)
+
 pub length-put : (t : Entry) (l : List Entry) → length (putIn t l) ≡ suc (length l)
 unfolding putIn
 length-put t [] = refl

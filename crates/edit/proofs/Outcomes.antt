@@ -1,6 +1,7 @@
 -- What an edit that is done comes to: the strict check, both listings, both lookups, and the bytes outside the slot.
 use Prim.Native.Nat.{ℕ, _+_, _^_, _≤_, _<_}
 use native.Mathlib.Omega.{arith}
+use native.Mathlib.Decide.{decLt}
 use mathlib.Core.Path.{_≡_, refl, sym, ap, _∙_}
 use mathlib.Core.List.{List, [], _∷_, List·Memᴰ}
 use mathlib.Core.Logic.{_⊎_, inl, inr}
@@ -18,12 +19,12 @@ use Rattle.strict.specs.Strict.{toldApart, Accepted, Sound}
 use Rattle.strict.specs.Slots.{hit, Spoilt}
 use Rattle.number.proofs.Tested.{keep-same, keep-comm, keep-all, length-keep, two-keep}
 use Rattle.strict.proofs.Frames.{mem-guarded, still-sound}
-use Rattle.strict.proofs.Slots.{Clear, same-slot, hit-own, guarded-rising}
+use Rattle.strict.proofs.Slots.{Clear, same-slot, hit-own, guarded-rising, slot-clear}
 use Rattle.strict.proofs.Bearing.{lone}
 use Rattle.strict.proofs.Accepting.{taken-sound, walks-agree, accepted-context-free}
 use Rattle.edit.specs.Edit.{Run, Slot, slotOf, freeRuns, lowest, buries, spanBytes, filled, putIn, instead, without, made, HeldAt, Addable}
 use Rattle.edit.proofs.Written.{Fit, name-fit, length-span, filled-length, filled-ones}
-use Rattle.edit.proofs.Lists.{put-instead, length-put, length-instead, apart-put, apart-instead, keep-put, keep-instead, keep-without, bears-not}
+use Rattle.edit.proofs.Lists.{put-instead, put-mem, length-put, length-instead, apart-put, apart-instead, keep-put, keep-instead, keep-without, bears-not}
 use Rattle.edit.proofs.Filling.{Room, inRun, in-true, in-of, out-after, out-before, carries-first, outside, frame, rest-same, new-listed, alone, new-listing, new-sound}
 use Rattle.edit.proofs.Runs.{row, Gap, mem-runs, lowest-some, lowest-least, Own, slot-own, slot-within, gap-room, own-room}
 
@@ -54,6 +55,8 @@ pub record Added (r : List ℕ) (a : ℕ) (name : List ℕ) (kind : ℕ) (put : 
   pub others : Others r a name r′
   -- No byte outside the new slot changed.
   pub slot : Spoilt (λ q. eqb q p) r′ a r
+  -- After the written span, every byte of the new slot is 0xFF.
+  pub ones : (i : ℕ) → hit (λ q. eqb q p) r′ a i ≡ true → p + length (spanBytes name kind put) ≤ i → getD r′ i 0 ≡ 255
   -- Nothing stood there.
   pub fresh : (u : Entry) → List·Memᴰ u (guardedListing r a) → u .place ≡ p → ⊥
   -- The lowest place at which a free run holds the span.
@@ -177,6 +180,16 @@ module _ (r : List ℕ) (a : ℕ) (big : 8 ≤ a) (acc : Accepted r a) (name : L
       free : Clear (guardedListing r′ a) (x .from) i
       free d m lt le = omega (arith, ap (λ (w : Entry). w .place) (alone r a big sound x room name kind put fit typed told (mem .2) (ok .clean) d m (in-of x (d .place) (omega arith) (omega (arith, in-true x i e)))))
 
+  -- The slot is the run.
+  in-run : (i : ℕ) → hit (λ q. eqb q (x .from)) r′ a i ≡ true → x .from ≤ i → i < x .to
+  in-run i e h = let c = slot-clear r′ a pos (x .from) i e h in go (c .0) (omega (arith, c .1, filled-length r x s (mem .2) (room .inside))) (gap .ends) (decLt i (x .to))
+    where
+      go : Clear (guardedListing r′ a) (x .from) i → i < length r → (length r ≤ x .to) ⊎ ((d : Entry) × List·Memᴰ d L × (d .place ≡ x .to))
+          → Dec (i < x .to) → i < x .to
+      go c lt o (yes k) = k
+      go c lt (inl k) (no n) = omega arith
+      go c lt (inr (d, m, q)) (no n) = absurd (c d (rw listed (put-mem (at (x .from) name kind put) L d m)) (omega (arith, room .long)) (omega arith))
+
   pub added : Added r a name kind put (x .from) r′
   added = record {
     accepted = accepted;
@@ -187,6 +200,7 @@ module _ (r : List ℕ) (a : ℕ) (big : 8 ≤ a) (acc : Accepted r a) (name : L
         (λ n h. rw listed (keep-put (bears n) (at (x .from) name kind put) L (bears-not n (at (x .from) name kind put) h)))
         (λ t m h i le lt. outside r a big sound x room s (mem .2) i (beside i (gap .sides t m) le lt));
     slot = record { alike = sym (filled-length r x s (mem .2) (room .inside)); rest = λ i e. go i e (inRun x i) refl };
+    ones = λ i e h. filled-ones r x s (mem .2) (room .inside) i h (in-run i e (omega arith));
     fresh = λ u m e. true≢false (sym (in-of x (x .from) (omega arith) (room .long)) ∙ rw e at (clear u m));
     held = (mem .1, x, mem .0, omega arith, mem .2);
     least = λ q h. lowest-least r a pos (length s) 0 L (inl (0, omega arith)) (row r a pos) x (rw same at low) q (rw same at h);

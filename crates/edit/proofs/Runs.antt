@@ -72,12 +72,24 @@ onwards r a n pos t ts w = record {
   apart = λ d f m k. w .apart d f (List·Memᴰ·tail m) (List·Memᴰ·tail k);
 }
 
--- A run among components: it begins and ends at a place or at e, and every component ends before it or starts after it.
+-- "The next component's start or the region's end", where a run or a slot ends.
+abbrev pub Ends : ℕ → List Entry → ℕ → Type 0
+Ends e l to = (e ≤ to) ⊎ ((d : Entry) × List·Memᴰ d l × (d .place ≡ to))
+
+ends-tail : {e to : ℕ} {t : Entry} {l : List Entry} → Ends e l to → Ends e (t ∷ l) to
+ends-tail (inl h) = inl h
+ends-tail (inr (d, m, q)) = inr (d, List·Memᴰ·tail m, q)
+
+ends-stop : {a e n to : ℕ} {l : List Entry} → Row a e n l → Ends e l to → Place a to ⊎ (e ≤ to)
+ends-stop w (inl h) = inr h
+ends-stop w (inr (d, m, q)) = inl (rw (← q) (w .at d m))
+
+-- A run among components: it begins at a place or at e, and every component ends before it or starts after it.
 pub record Gap (a e n : ℕ) (l : List Entry) (x : Run) : Type 0 where
   pub at : Place a (x .from) ⊎ (e ≤ x .from)
   pub from : n ≤ x .from
   pub inside : x .to ≤ e
-  pub stop : Place a (x .to) ⊎ (e ≤ x .to)
+  pub ends : Ends e l (x .to)
   pub sides : (d : Entry) → List·Memᴰ d l → (end d ≤ x .from) ⊎ (x .to ≤ d .place)
 
 module _ (r : List ℕ) (a : ℕ) (pos : 0 < a) where
@@ -87,7 +99,7 @@ module _ (r : List ℕ) (a : ℕ) (pos : 0 < a) where
   mem-runs n [] pl w x m = go (List·Memᴰ·cases-cons m)
     where
       go : (x ≡ record { from = n; to = (length r) }) ⊎ List·Memᴰ x [] → Gap a (length r) n [] x
-      go (inl q) = rw q (record { at = pl; from = omega arith; inside = omega arith; stop = inr (omega arith); sides = λ d k. absurd (List·Memᴰ·not-nil k) })
+      go (inl q) = rw q (record { at = pl; from = omega arith; inside = omega arith; ends = inl (omega arith); sides = λ d k. absurd (List·Memᴰ·not-nil k) })
       go (inr k) = absurd (List·Memᴰ·not-nil k)
   mem-runs n (t ∷ ts) pl w x m = go (List·Memᴰ·cases-cons m) (λ k. mem-runs (next r a t) ts (onward-stop r a (end t)) (onwards r a n pos t ts w) x k)
     where
@@ -104,14 +116,14 @@ module _ (r : List ℕ) (a : ℕ) (pos : 0 < a) where
         at = pl;
         from = omega arith;
         inside = omega (arith, w .below t (List·Memᴰ·head refl));
-        stop = inl (w .at t (List·Memᴰ·head refl));
+        ends = inr (t, List·Memᴰ·head refl, refl);
         sides = λ d k. now d (List·Memᴰ·cases-cons k);
       })
       go (inr k) ih = let g = ih k in record {
         at = g .at;
         from = omega (arith, g .from, next-ge r a pos t (w .fits t (List·Memᴰ·head refl)), w .bytes t (List·Memᴰ·head refl), w .from t (List·Memᴰ·head refl));
         inside = g .inside;
-        stop = g .stop;
+        ends = ends-tail (g .ends);
         sides = λ d k. later g d (List·Memᴰ·cases-cons k);
       }
 
@@ -182,7 +194,7 @@ pub record Own (a e : ℕ) (name : List ℕ) (l : List Entry) (z : Slot) : Type 
   pub from : z .run .from ≡ z .entry .place
   pub long : z .run .from < z .run .to
   pub inside : z .run .to ≤ e
-  pub stop : Place a (z .run .to) ⊎ (e ≤ z .run .to)
+  pub ends : Ends e l (z .run .to)
   pub sides : (d : Entry) → List·Memᴰ d l → (d ≡ z .entry) ⊎ ((end d ≤ z .run .from) ⊎ (z .run .to ≤ d .place))
 
 module _ (r : List ℕ) (a : ℕ) (pos : 0 < a) where
@@ -191,10 +203,10 @@ module _ (r : List ℕ) (a : ℕ) (pos : 0 < a) where
   start-inside n [] w = omega arith
   start-inside n (t ∷ ts) w = omega (arith, w .below t (List·Memᴰ·head refl))
 
-  start-stop : (n : ℕ) (l : List Entry) → Row a (length r) n l → Place a (start (length r) l) ⊎ ((length r) ≤ start (length r) l)
+  start-ends : (t : Entry) (l : List Entry) → Ends (length r) (t ∷ l) (start (length r) l)
   unfolding start
-  start-stop n [] w = inr (omega arith)
-  start-stop n (t ∷ ts) w = inl (w .at t (List·Memᴰ·head refl))
+  start-ends t [] = inl (omega arith)
+  start-ends t (u ∷ us) = inr (u, List·Memᴰ·tail (List·Memᴰ·head refl), refl)
 
   pub slot-own : (name : List ℕ) (n : ℕ) (l : List Entry) → Row a (length r) n l → (z : Slot) → slotOf (length r) name l ≡ some z → Own a (length r) name l z
   unfolding slotOf
@@ -216,7 +228,7 @@ module _ (r : List ℕ) (a : ℕ) (pos : 0 < a) where
         from = refl;
         long = start-after (λ p. true) (length r) ts (t .place) (w .below t (List·Memᴰ·head refl)) (w .up .0);
         inside = start-inside (next r a t) ts (onwards r a n pos t ts w);
-        stop = start-stop (next r a t) ts (onwards r a n pos t ts w);
+        ends = start-ends t ts;
         sides = λ d k. now d (List·Memᴰ·cases-cons k);
       })
       go false h g′ ih = let o = ih g′ in record {
@@ -225,7 +237,7 @@ module _ (r : List ℕ) (a : ℕ) (pos : 0 < a) where
         from = o .from;
         long = o .long;
         inside = o .inside;
-        stop = o .stop;
+        ends = ends-tail (o .ends);
         sides = λ d k. later o d (List·Memᴰ·cases-cons k);
       }
 
@@ -259,7 +271,7 @@ module _ (r : List ℕ) (a : ℕ) (pos : 0 < a) where
 
 -- A free run that has bytes is room for a new slot, and a slot is.
 pub gap-room : (r : List ℕ) (a : ℕ) → 0 < a → (x : Run) → Gap a (length r) 0 (guardedListing r a) x → x .from < x .to → Room r a x
-gap-room r a pos x g long = record { at = at (g .at); long = long; inside = g .inside; stop = g .stop; before = λ t m lt. go t lt (g .sides t m) }
+gap-room r a pos x g long = record { at = at (g .at); long = long; inside = g .inside; stop = ends-stop (row r a pos) (g .ends); before = λ t m lt. go t lt (g .sides t m) }
   where
     at : Place a (x .from) ⊎ (length r ≤ x .from) → Place a (x .from)
     at (inl p) = p
@@ -274,7 +286,7 @@ own-room r a pos name z o = record {
   at = rw (o .from) (mem-guarded r a pos (z .entry) (o .listed) .0);
   long = o .long;
   inside = o .inside;
-  stop = o .stop;
+  stop = ends-stop (row r a pos) (o .ends);
   before = λ t m lt. go t lt (o .sides t m);
 }
   where

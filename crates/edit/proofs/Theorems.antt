@@ -21,13 +21,13 @@ use Rattle.walk.proofs.Places.{mem-places}
 use Rattle.walk.proofs.Picks.{carries-fits, buried-false}
 use Rattle.walk.proofs.Members.{given}
 use Rattle.lookup.proofs.Bearers.{bears-name}
-use Rattle.strict.specs.Strict.{Accepted, refused, verdict}
+use Rattle.strict.specs.Strict.{Accepted, verdict}
 use Rattle.strict.specs.Slots.{start}
 use Rattle.number.proofs.Tested.{any-true}
-use Rattle.edit.specs.Edit.{Bytes, Run, holds, Slot, slotOf, freeRuns, lowest, buries, spanBytes, filled, write, afterCheck, adding, renewing, clearing, refusal, done, carriedOut, add, replace, remove, Addable}
+use Rattle.edit.specs.Edit.{Bytes, Run, holds, Slot, slotOf, freeRuns, lowest, buries, spanBytes, filled, write, afterCheck, adding, renewing, clearing, done, carriedOut, add, replace, remove, Addable}
 use Rattle.edit.proofs.Written.{Fit, name-fit, length-span}
 use Rattle.edit.proofs.Runs.{holds-true}
-use Rattle.edit.proofs.Decisions.{not-write, same-write, is-refused, refused-same, does, check-accepted, check-refused, check-write, AddCase, unfit, used, full, hidden, nowhere, placed, add-case, RenewCase, unborne, burying, long, fitting, renew-case, ClearCase, missing, clears, clear-case}
+use Rattle.edit.proofs.Decisions.{not-write, same-write, does, check-accepted, check-write, AddCase, unfit, used, full, hidden, nowhere, placed, add-case, RenewCase, unborne, burying, long, fitting, renew-case, ClearCase, missing, clears, clear-case}
 use Rattle.edit.proofs.Outcomes.{Added, Replaced, Removed, added, replaced, removed, at}
 
 be-below : (w : ℕ) (s : List ℕ) (i : ℕ) → Bytes s → be w s i < 256 ^ w
@@ -84,20 +84,6 @@ buries-exactly a pos s = (only, λ h. of (h .0) (h .1) (h .2) (h .3) (buried s a
     of q pl lt c false e = absurd (true≢false (sym c ∙ buried-false s a pos 0 (length s) (0, omega arith) e q pl lt (omega (arith, carries-fits s q c))))
 
 module _ (r : List ℕ) (a : ℕ) where
-  -- A refused edit changes no byte.
-
-  pub add-refused : (name : List ℕ) (kind : ℕ) (put : List ℕ) (n p : ℕ) → add 256 r a name kind put .reply ≡ refusal n p → add 256 r a name kind put .bytes ≡ r
-  unfolding add
-  add-refused name kind put n p e = refused-same r _ n p e
-
-  pub replace-refused : (name put : List ℕ) (n p : ℕ) → replace 256 r a name put .reply ≡ refusal n p → replace 256 r a name put .bytes ≡ r
-  unfolding replace
-  replace-refused name put n p e = refused-same r _ n p e
-
-  pub remove-refused : (name : List ℕ) (n p : ℕ) → remove 256 r a name .reply ≡ refusal n p → remove 256 r a name .bytes ≡ r
-  unfolding remove
-  remove-refused name n p e = refused-same r _ n p e
-
   -- An edit that is done: the strict check still accepts, both lookups, every other name, both listings, the bytes outside the slot.
 
   pub add-done : 8 ≤ a → (name : List ℕ) (kind : ℕ) (put : List ℕ) (p : ℕ) → kind < 256 ^ 4 → add 256 r a name kind put .reply ≡ done p → Added r a name kind put p (add 256 r a name kind put .bytes)
@@ -178,17 +164,3 @@ module _ (r : List ℕ) (a : ℕ) where
   pub remove-on : Accepted r a → (name : List ℕ) → remove 256 r a name ≡ carriedOut r (clearing (slotOf (length r) name (plainListing r a)))
   unfolding remove
   remove-on acc name = ap (carriedOut r) (check-accepted r a (clearing (slotOf (length r) name (plainListing r a))) acc)
-
-  -- The strict check's refusals come first: 12, with its place, 13, 11.
-
-  pub add-checked : (name : List ℕ) (kind : ℕ) (put : List ℕ) (n p : ℕ) → verdict 256 r a ≡ refused n p → add 256 r a name kind put .reply ≡ refusal n p
-  unfolding add
-  add-checked name kind put n p v = is-refused r _ n p (check-refused r a (adding 256 r a name (spanBytes name kind put) (plainListing r a)) n p v)
-
-  pub replace-checked : (name put : List ℕ) (n p : ℕ) → verdict 256 r a ≡ refused n p → replace 256 r a name put .reply ≡ refusal n p
-  unfolding replace
-  replace-checked name put n p v = is-refused r _ n p (check-refused r a (renewing a name put (slotOf (length r) name (plainListing r a))) n p v)
-
-  pub remove-checked : (name : List ℕ) (n p : ℕ) → verdict 256 r a ≡ refused n p → remove 256 r a name .reply ≡ refusal n p
-  unfolding remove
-  remove-checked name n p v = is-refused r _ n p (check-refused r a (clearing (slotOf (length r) name (plainListing r a))) n p v)

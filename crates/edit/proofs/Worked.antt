@@ -7,10 +7,14 @@ use mathlib.Core.Option.{some, none}
 use lib.ListN.{replicate}
 use Rattle.number.specs.Number.{beBytes}
 use Rattle.number.specs.Bytes.{eqBytes, splice}
-use Rattle.component.specs.Component.{magic, startsWithMagic}
+use Rattle.number.specs.Tests.{all}
 use Rattle.number.specs.Lists.{any}
-use Rattle.walk.specs.Walk.{Entry, placesBelow, places, carries, buried}
-use Rattle.edit.specs.Edit.{Run, holds, fieldSize, headerBytes, fieldBytes, spanBytes, buries, lowest, filled, clearing, write, done, carriedOut}
+use Rattle.component.specs.Names.{nameTests, nameFits}
+use Rattle.component.specs.Component.{magic, startsWithMagic}
+use Rattle.walk.specs.Walk.{Entry, placesBelow, places, carries, buried, onward}
+use Rattle.lookup.specs.Lookup.{bears}
+use Rattle.edit.specs.Edit.{Run, holds, fieldSize, headerBytes, fieldBytes, spanBytes, buries, runs, lowest, filled, adding, renewing, clearing, write, done, carriedOut, made}
+use Rattle.edit.specs.Table.{decisionNumber}
 
 abbrev bytes : ℕ → ℕ → Run
 bytes n m = record { from = n; to = m }
@@ -59,3 +63,43 @@ nothing p = record { place = p; component = record { offset = 0; len = 0; kind =
 cleared : carriedOut eight (clearing (some (record { entry = nothing 2; run = bytes 2 6 }))) ≡ record { reply = done 2; bytes = 1 ∷ 2 ∷ 255 ∷ 255 ∷ 255 ∷ 255 ∷ 7 ∷ 8 ∷ [] }
 unfolding carriedOut clearing filled splice
 cleared = refl
+
+-- The order 14, 15, 13, 16, 17 of an add to a region of 64 bytes, and 10, 16, 17 of a replace in a slot of 64 bytes: of each two neighbours that
+-- apply together the first is given. Where ab is listed, it is as many components as are allowed.
+
+abbrev ab : List ℕ
+ab = 97 ∷ 98 ∷ []
+
+abbrev there : Entry
+there = record { place = 0; component = made ab 0x10 [] }
+
+-- A content that has LARCHIVE at byte 48 of its span.
+
+abbrev hiding : List ℕ
+hiding = replicate 8 0 ++ magic
+
+abbrev region : List ℕ
+region = replicate 64 0xFF
+
+abbrev adds : ℕ → List ℕ → List ℕ → List Entry → ℕ
+adds most name content l = decisionNumber (adding most region 16 name (spanBytes name 0x10 content) l)
+
+add-order :
+    adds 1 [] [] (there ∷ [])
+    ∷ adds 1 ab [] (there ∷ [])
+    ∷ adds 1 (97 ∷ []) hiding (there ∷ [])
+    ∷ adds 2 ab (hiding ++ replicate 65 0) []
+    ∷ adds 2 ab (replicate 65 0) []
+    ∷ adds 2 ab (replicate 24 0) []
+    ∷ []
+    ≡ 14 ∷ 15 ∷ 13 ∷ 16 ∷ 17 ∷ 0 ∷ []
+unfolding any all nameTests nameFits bears eqBytes buries buried carries places placesBelow magic startsWithMagic beBytes fieldSize headerBytes fieldBytes spanBytes onward runs lowest adding
+add-order = refl
+
+abbrev replaces : List ℕ → ℕ
+replaces content = decisionNumber (renewing 16 ab content (some (record { entry = there; run = bytes 0 64 })))
+
+replace-order : decisionNumber (renewing 16 ab [] none) ∷ replaces (hiding ++ replicate 65 0) ∷ replaces (replicate 25 0) ∷ replaces (replicate 24 0) ∷ []
+    ≡ 10 ∷ 16 ∷ 17 ∷ 0 ∷ []
+unfolding any buries buried carries places placesBelow magic startsWithMagic eqBytes beBytes fieldSize headerBytes fieldBytes spanBytes renewing
+replace-order = refl

@@ -1,10 +1,10 @@
 -- Document 01's starred cases ("Bench image A"), in its order: each line is a call's definition at its arguments, and the answer that the paper gives.
-use Prim.Native.Nat.{ℕ, _+_, _-_, _^_}
+use Prim.Native.Nat.{ℕ, _-_, _^_}
 use mathlib.Core.Path.{_≡_}
 use mathlib.Core.List.{List, [], _∷_, _++_}
-use lib.ListN.{length, replicate}
+use lib.ListN.{replicate}
 use Rattle.number.specs.Number.{beBytes, leBytes}
-use Rattle.component.specs.Component.{magic}
+use Rattle.bench_image.specs.BenchImage.{larchive, cal, log, head, image, regionA, region500, regionTwice, imageA}
 use Rattle.walk.specs.declared.Taken.{Taken}
 use Rattle.terms.specs.Terms.{refusedBy}
 use Rattle.terms.specs.declared.Region.{Region}
@@ -26,62 +26,41 @@ use Rattle.finding.specs.Finding.{plainFind, guardedFind, nameAt}
 use Rattle.editing.specs.Editing.{added, replaced}
 use Rattle.planning.specs.Planning.{stage, payload}
 
--- An image of 4096 bytes: the region's bytes r, 0xFF after them, the master header with bootblocksize, align and offset, and P, which is 0xFFFFFF00 + p.
-unfoldable pub image : List ℕ → ℕ → ℕ → ℕ → ℕ → List ℕ
-image r boot align offset p =
-    r ++ (replicate (4060 - length r) 0xFF
-    ++ (beBytes 4 0x4F524243 ++ (beBytes 4 0x31313131 ++ (beBytes 4 4096 ++ (beBytes 4 boot ++ (beBytes 4 align ++ (beBytes 4 offset ++ (replicate 8 0 ++ leBytes 4 (0xFFFFFF00 + p)))))))))
-
--- The names cal/12 (d is 50) and cal/13 (51), and log; the type of bench image A's components.
-
-unfoldable pub cal : ℕ → List ℕ
-cal d = 99 ∷ 97 ∷ 108 ∷ 47 ∷ 49 ∷ d ∷ []
-
-unfoldable pub log : List ℕ
-log = 108 ∷ 111 ∷ 103 ∷ []
-
+-- The type of bench image A's components.
 abbrev pub table : ℕ
 table = 0xFFFFFFFF
-
--- The header and name field of a component at offset 40.
-unfoldable pub head : ℕ → List ℕ → List ℕ
-head len name = magic ++ (beBytes 4 len ++ (beBytes 4 table ++ (beBytes 4 0 ++ (beBytes 4 40 ++ (name ++ replicate (16 - length name) 0)))))
-
--- Bench image A's region, with cal/12's len and its name given: 100 zeros of content, and 24 of cal/13's, which stands at 192.
-unfoldable pub tables : ℕ → List ℕ → List ℕ
-tables len name = head len name ++ (replicate 100 0 ++ (replicate 52 0xFF ++ (head 24 (cal 51) ++ replicate 24 0)))
 
 -- Bench image A; and A with another bootblocksize, align, offset or P.
 
 abbrev pub A : List ℕ
-A = image (tables 100 (cal 50)) 1024 64 0 0xDC
+A = imageA
 
 abbrev pub A-address : ℕ → List ℕ
-A-address p = image (tables 100 (cal 50)) 1024 64 0 p
+A-address p = image regionA 1024 64 0 p
 
 abbrev pub A-bootblock : ℕ → List ℕ
-A-bootblock boot = image (tables 100 (cal 50)) boot 64 0 0xDC
+A-bootblock boot = image regionA boot 64 0 0xFFFFFFDC
 
 abbrev pub A-align : ℕ → List ℕ
-A-align align = image (tables 100 (cal 50)) 1024 align 0 0xDC
+A-align align = image regionA 1024 align 0 0xFFFFFFDC
 
 abbrev pub A-offset : ℕ → List ℕ
-A-offset offset = image (tables 100 (cal 50)) 1024 64 offset 0xDC
+A-offset offset = image regionA 1024 64 offset 0xFFFFFFDC
 
 -- A with cal/12's len made 500, and with its name made cal/13.
 
 abbrev pub A-500 : List ℕ
-A-500 = image (tables 500 (cal 50)) 1024 64 0 0xDC
+A-500 = image region500 1024 64 0 0xFFFFFFDC
 
 abbrev pub A-twice : List ℕ
-A-twice = image (tables 100 (cal 51)) 1024 64 0 0xDC
+A-twice = image regionTwice 1024 64 0 0xFFFFFFDC
 
 -- A component whose span has 1052 bytes, at 0, with align 1024.
 abbrev pub wide : List ℕ
-wide = image (head 1012 (cal 50) ++ replicate 1012 0) 1024 1024 0 0xDC
+wide = image (head 1012 (cal 0x32) ++ replicate 1012 0) 1024 1024 0 0xFFFFFFDC
 
-abbrev pub region : ℕ → ℕ → ℕ → Region
-region s e a = record { start = s; end = e; align = a }
+abbrev pub bounds : ℕ → ℕ → ℕ → Region
+bounds s e a = record { start = s; end = e; align = a }
 
 -- A component as a step or a lookup tells it: its place, offset, len, type and the length of its name, and the number to go on from.
 abbrev pub told : ℕ → ℕ → ℕ → ℕ → ℕ → ℕ → Taken
@@ -93,7 +72,7 @@ unfoldable pub boot : List ℕ
 boot = 98 ∷ 111 ∷ 111 ∷ 116 ∷ []
 
 abbrev pub holding : ℕ → List ℕ → List ℕ
-holding kind content = image (spanBytes boot kind content) 1024 64 0 0xDC
+holding kind content = image (spanBytes boot kind content) 1024 64 0 0xFFFFFFDC
 
 -- A payload: CODE of 4 bytes at 0x1000 for 0x100, BSS of 16 bytes at b, ENTRY at 0x1000. The 4 bytes stand after the records, at 124.
 abbrev pub records : ℕ → List ℕ
@@ -124,7 +103,7 @@ loaded m = record { number = 0; place = 0; compression = 0; entry = 2 ^ 64 - 16;
 
 -- LARCHIVE from byte n of the content on.
 unfoldable pub hidingAt : ℕ → List ℕ
-hidingAt n = replicate n 0 ++ magic
+hidingAt n = replicate n 0 ++ larchive
 
 infixr 5 _and_
 -- Every statement of a list holds.
@@ -135,16 +114,16 @@ pub data All : List (Type 0) → Type 1 where
 -- ★ P 0xFFFFFFDC read, 0xFFFFFFDD: 2. ★ bootblocksize 36 read, 35: 6.
 abbrev pub addresses : List (Type 0)
 addresses =
-    (master (A-address 0xDC) ≡ Read (region 0 3072 64))
-    ∷ (master (A-address 0xDD) ≡ Refused (refusedBy 2))
-    ∷ (master (A-bootblock 36) ≡ Read (region 0 4060 64))
+    (master (A-address 0xFFFFFFDC) ≡ Read (bounds 0 3072 64))
+    ∷ (master (A-address 0xFFFFFFDD) ≡ Refused (refusedBy 2))
+    ∷ (master (A-bootblock 36) ≡ Read (bounds 0 4060 64))
     ∷ (master (A-bootblock 35) ≡ Refused (refusedBy 6))
     ∷ []
 
 -- ★ align 16 read; 8, 48 and 131,072: 7. Empty region: an empty listing.
 abbrev pub aligns : List (Type 0)
 aligns =
-    (master (A-align 16) ≡ Read (region 0 3072 16))
+    (master (A-align 16) ≡ Read (bounds 0 3072 16))
     ∷ (master (A-align 8) ≡ Refused (refusedBy 7))
     ∷ (master (A-align 48) ≡ Refused (refusedBy 7))
     ∷ (master (A-align 131072) ≡ Refused (refusedBy 7))
@@ -172,21 +151,21 @@ abbrev pub overrun : List (Type 0)
 overrun =
     Walked (plainStep A-500) 0 (told 0 40 500 table 6 576 ∷ [])
     ∷ Walked (guardedStep A-500) 0 (told 192 40 24 table 6 256 ∷ [])
-    ∷ (nameAt A-500 192 ≡ cal 51)
+    ∷ (nameAt A-500 192 ≡ cal 0x33)
     ∷ []
 
 -- ★ A with cal/12's name made cal/13: plain lookup gives place 0, guarded refuses 11.
 abbrev pub twice : List (Type 0)
 twice =
-    (plainFind A-twice (cal 51) ≡ At (told 0 40 100 table 6 192))
-    ∷ (guardedFind A-twice (cal 51) ≡ NotFound (refusedBy 11))
+    (plainFind A-twice (cal 0x33) ≡ At (told 0 40 100 table 6 192))
+    ∷ (guardedFind A-twice (cal 0x33) ≡ NotFound (refusedBy 11))
     ∷ []
 
 -- ★ Replace cal/12 by 152 bytes fits, 153: 17.
 abbrev pub replacing : List (Type 0)
 replacing =
-    (replaced A (cal 50) (replicate 152 0) .answer ≡ Done 0)
-    ∷ (replaced A (cal 50) (replicate 153 0) .answer ≡ NotDone (refusedBy 17))
+    (replaced A (cal 0x32) (replicate 152 0) .answer ≡ Done 0)
+    ∷ (replaced A (cal 0x32) (replicate 153 0) .answer ≡ NotDone (refusedBy 17))
     ∷ []
 
 -- ★ Add log of 2776 bytes goes to 256; 2777: 17.

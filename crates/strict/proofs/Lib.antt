@@ -7,3 +7,4 @@ pub mod Reasons
 pub mod Verdicts
 pub mod Strays
 pub mod Example
+pub mod Exactly

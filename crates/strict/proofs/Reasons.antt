@@ -10,11 +10,11 @@ use lib.ListN.{length}
 use borrow.Author.Tests.{not-true}
 use Rattle.number.specs.Lists.{any, keep, noTwo}
 use Rattle.walk.specs.Walk.{Entry, placesBelow, places, allPlaces, carries, plainListing, Place}
-use Rattle.lookup.specs.Lookup.{bears}
+use Rattle.lookup.specs.Lookup.{bears, TwoAlike}
 use Rattle.walk.proofs.Places.{no-places, mem-places}
 use Rattle.lookup.proofs.Bearers.{bears-name, name-bears}
 use Rattle.walk.proofs.Picks.{carries-fits}
-use Rattle.strict.specs.Strict.{takes, stray, strays, toldApart, TwoAlike, LowestStray}
+use Rattle.strict.specs.Strict.{takes, stray, strays, toldApart, LowestStray}
 use Rattle.number.proofs.Tested.{both-true, mem-any, keep-empty}
 use Rattle.strict.proofs.Picked.{listed-place, place-listed}
 use Rattle.strict.proofs.Strays.{stray-true}

@@ -8,8 +8,8 @@ use mathlib.Core.Logic.{_⊎_, inl, inr}
 use mathlib.Core.Bool.{Bool, true, false, _&&_, true≢false, and-true, and-false, or-false}
 use mathlib.Core.Option.{Option, some, none}
 use lib.ListN.{length}
-use lib.Dec.{leb, ltb}
-use borrow.Author.Tests.{le-leb, lt-leb, lt-ltb, le-ltb}
+use lib.Dec.{leb, ltb, eqb}
+use borrow.Author.Tests.{le-leb, lt-leb, lt-ltb, le-ltb, ne-eqb}
 use Rattle.component.specs.Component.{Component, span}
 use Rattle.walk.specs.Walk.{Entry, Pick, end, placesBelow, places, guarded, guardedListing, picked, prepend, Place}
 use Rattle.walk.proofs.Places.{mem-places}
@@ -196,6 +196,20 @@ module _ (set : ℕ → Bool) (e : ℕ) where
       go (inl q) = omega (arith, ap (λ (u : Entry). u .place) q)
       go (inr n) = omega (arith, up .0 t n)
 
+  -- Past the region's end there is no slot.
+  pub within-past : (l : List Entry) → ((d : Entry) → List·Memᴰ d l → d .place ≤ e) → (i : ℕ) → e ≤ i → within set e l i ≡ false
+  unfolding within start
+  within-past [] below i h = refl
+  within-past (t ∷ ts) below i h = rw (
+    le-ltb i (start e ts) (omega (arith, start-below ts (λ d m. below d (List·Memᴰ·tail m)))),
+    and-false (set (t .place) && leb (t .place) i),
+    within-past ts (λ d m. below d (List·Memᴰ·tail m)) i h,
+  )
+    where
+      start-below : (l : List Entry) → ((d : Entry) → List·Memᴰ d l → d .place ≤ e) → start e l ≤ e
+      start-below [] b = omega arith
+      start-below (u ∷ us) b = b u (List·Memᴰ·head refl)
+
   -- The start of a component lies in its own slot.
   pub within-own : (l : List Entry) → Rising l → (t : Entry) → List·Memᴰ t l → t .place < e → within set e l (t .place) ≡ set (t .place)
   unfolding within
@@ -212,3 +226,23 @@ module _ (set : ℕ → Bool) (e : ℕ) where
 -- The place of a component lies in a slot of the set exactly if the set has its slot.
 pub hit-own : (r : List ℕ) (a : ℕ) → 0 < a → (set : ℕ → Bool) (t : Entry) → List·Memᴰ t (guardedListing r a) → hit set r a (t .place) ≡ set (t .place)
 hit-own r a pos set t m = within-own set (length r) (guardedListing r a) (guarded-rising r a pos) t m (mem-guarded r a pos t m .1)
+
+-- A byte of the slot at p, at p or after it: no component starts between, and it lies in the region.
+pub slot-clear : (r : List ℕ) (a : ℕ) → 0 < a → (p i : ℕ) → hit (λ q. eqb q p) r a i ≡ true → p ≤ i → Clear (guardedListing r a) p i × (i < length r)
+slot-clear r a pos p i e h = (go (last (guardedListing r a) p i), short)
+  where
+    short : i < length r
+    short = by (decLt i (length r))
+      where
+        by : Dec (i < length r) → i < length r
+        by (yes k) = k
+        by (no k) = absurd (true≢false (sym e ∙ within-past (λ q. eqb q p) (length r) (guardedListing r a) (λ d m. omega (arith, mem-guarded r a pos d m .1)) i (omega arith)))
+
+    go : Clear (guardedListing r a) p i ⊎ Last (guardedListing r a) p i → Clear (guardedListing r a) p i
+    go (inl c) = c
+    go (inr d) = absurd (true≢false (
+        sym e
+        ∙ same-slot (λ q. eqb q p) (length r) (guardedListing r a) (d .one .place) i (d .before) short (d .clear)
+        ∙ hit-own r a pos (λ q. eqb q p) (d .one) (d .listed)
+        ∙ ne-eqb (d .one .place) p (λ q. omega (arith, d .after))
+        ))

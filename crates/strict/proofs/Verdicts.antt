@@ -9,7 +9,8 @@ use lib.ListN.{length, length-map}
 use lib.Dec.{ltb}
 use borrow.Author.Tests.{lt-ltb, le-ltb, ltb-true, ltb-false}
 use Rattle.walk.specs.Walk.{Entry, plainListing}
-use Rattle.strict.specs.Strict.{limit, strays, toldApart, Accepted, Verdict, refused, accepted, placesOf, decide, verdict, LowestStray, TwoAlike}
+use Rattle.lookup.specs.Lookup.{TwoAlike}
+use Rattle.strict.specs.Strict.{limit, strays, toldApart, Accepted, Verdict, refused, accepted, placesOf, decide, verdict, LowestStray}
 use Rattle.strict.proofs.Reasons.{lowest-first, alike-exactly}
 
 -- The four cases.

@@ -1,7 +1,7 @@
 -- The strict check over a region's bytes r at the alignment a (document 01, "Components and the two walks"; refusals 12, 13, 11).
-use Prim.Native.Nat.{ℕ, _-_, _≤_, _<_}
+use Prim.Native.Nat.{ℕ, _≤_, _<_}
 use mathlib.Core.Path.{_≡_}
-use mathlib.Core.List.{List, [], _∷_, _++_, map}
+use mathlib.Core.List.{List, [], _∷_, map}
 use mathlib.Core.Bool.{Bool, true, false, cond, not, _&&_}
 use mathlib.Core.Option.{some}
 use lib.ListN.{length}
@@ -66,16 +66,6 @@ pub record LowestStray (r : List ℕ) (a : ℕ) (p : ℕ) : Type 0 where
   pub magic : carries r p ≡ true
   pub untaken : takes (plainListing r a) p ≡ false
   pub least : (q : ℕ) → Place a q → carries r q ≡ true → takes (plainListing r a) q ≡ false → p ≤ q
-
--- Two components of the list bear one name.
-pub record TwoAlike (l : List Entry) : Type 0 where
-  pub before : List Entry
-  pub one : Entry
-  pub between : List Entry
-  pub other : Entry
-  pub after : List Entry
-  pub split : l ≡ before ++ (one ∷ (between ++ (other ∷ after)))
-  pub same : one .component .name ≡ other .component .name
 
 -- Every magic at a place is a component's that the guarded walk may take.
 abbrev pub Sound : List ℕ → ℕ → Type 0

@@ -1,0 +1,1 @@
+// Bench image A of document 01: see specs/. There is no code.
