@@ -3,3 +3,4 @@ pub mod Names
 pub mod Directories
 pub mod Passes
 pub mod Answers
+pub mod Worked

@@ -1,3 +1,4 @@
 pub mod Writing
 pub mod Faces
 pub mod Around
+pub mod Worked

@@ -39,6 +39,11 @@ module _ (at l : ℕ) (x : Segment) (e : firstFailed (typeTests at l x) ≡ 0) w
   unfolding loadTests
   memory-fit h = len-in (x .compression) (x .len) (x .memlen) (loading h 2)
 
+  pub compression-fit : HasSource x → x .compression ≤ 2
+  unfolding loadTests paramsTests
+  compression-fit (inl h) = leb-true (x .compression) 2 (all-passed (paramsTests at l x) refl (rw (hands at l x h) at e) 0)
+  compression-fit (inr h) = leb-true (x .compression) 2 (loading h 0)
+
   -- Its type is one of the five.
   pub known : HasSource x ⊎ ((x .kind ≡ bssType) ⊎ (x .kind ≡ entryType))
   unfolding typeTests

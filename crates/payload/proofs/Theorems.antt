@@ -25,7 +25,7 @@ use Rattle.load.proofs.Answering.{accepted, refused, found-plan, refusal-zero}
 use Rattle.payload.specs.Payload.{typeAt, origin, segmentAt, typeTests, most, turnTests, segmentsFrom, payloadTests, unused, planOf, refusedPayload, payloadAnswer, payloadOf, payloadIn}
 use Rattle.payload.specs.Accepted.{segmentOf, Target, AcceptedPayload}
 use Rattle.payload.specs.declared.PayloadPlan.{PayloadPlan}
-use Rattle.payload.proofs.Accepting.{source-fit, target-fit, memory-fit, known, kind-is, no-target, no-source, Run, run, from-most, Nth, nth, ending, pairwise, apart-in}
+use Rattle.payload.proofs.Accepting.{source-fit, target-fit, memory-fit, compression-fit, known, kind-is, no-target, no-source, Run, run, from-most, Nth, nth, ending, pairwise, apart-in}
 
 -- What a plan's number and its refusals are.
 
@@ -105,6 +105,7 @@ module _ (i s : List ℕ) (t : Taken) (place : Located i s t) (ok : number (payl
     targets = λ k h. target-fit (contentPlace t) (length s) (segmentOf plan k) (fits k h);
     disjoint = λ j k f h b. shared b j k f h;
     memory = λ k h. memory-fit (contentPlace t) (length s) (segmentOf plan k) (fits k h);
+    compressed = λ k h. compression-fit (contentPlace t) (length s) (segmentOf plan k) (fits k h);
     sourceless = λ k h. rw (in-order k h) (no-source s (origin t) (28 * k));
     targetless = λ k h. rw (in-order k h) (no-target s (origin t) (28 * k));
     past = unused-past;
@@ -119,7 +120,7 @@ module _ (i : List ℕ) (g : Region) (name : List ℕ) where
   unfolding payloadIn
   payload-accepted h =
       let (t, f, z) = found-plan number refusedPayload refused-number i g name (λ t. payloadOf t content) h in
-      let l = located i g name t f in
+      let l = located i g true name t f in
       (t, f, rw (f, planned i content t l z .1) (holds i content t l z))
 
   -- A refusal has its number, tells place 0, and is zero otherwise.

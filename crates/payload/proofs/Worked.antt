@@ -88,6 +88,13 @@ payloads =
     ∷ (0, many 15 ++ entry)
     ∷ (21, many 16)
     ∷ (21, many 16 ++ entry)
+    -- the order: 22 before 23, 23 before 24, 24 before 25, 25 before 26
+    ∷ (22, segment codeType 3 39 0x1000 0 0 ++ entry)
+    ∷ (23, segment codeType 0 39 0x1000 2 1 ++ entry)
+    ∷ (24, segment codeType 0 40 (2 ^ 64 - 2) 4 3 ++ entry)
+    ∷ (25, code (2 ^ 64 - 16) 16 ++ (bss (2 ^ 64 - 2) 3 ++ entry))
+    -- the first record that is refused: 26 of the second before 20 of the third
+    ∷ (26, code 0x1000 0x100 ++ (bss 0x1000 1 ++ replicate 28 0))
     ∷ []
 
 abbrev agrees : ℕ × List ℕ → Bool

@@ -48,6 +48,8 @@ pub record AcceptedPayload (i s : List ℕ) (t : Taken) (p : PayloadPlan) : Type
   pub disjoint : (j k : ℕ) → j < p .count → k < p .count → (b : ℕ) → Target (segmentOf p j) b → Target (segmentOf p k) b → j ≡ k
   -- Uncompressed bytes are no more than the memory for them.
   pub memory : (k : ℕ) → k < p .count → Loaded (segmentOf p k) → (segmentOf p k) .compression ≡ 0 → (segmentOf p k) .len ≤ (segmentOf p k) .memlen
+  -- "compression above 2 (not BSS, ENTRY)" is refused; those two, which have no source, report 0.
+  pub compressed : (k : ℕ) → k < p .count → HasSource (segmentOf p k) → (segmentOf p k) .compression ≤ 2
   -- "Fields a type doesn't use, and unused segments, are 0." ENTRY uses load_addr, and has no target.
   pub sourceless : (k : ℕ) → k < p .count → (HasSource (segmentOf p k) → ⊥) → ((segmentOf p k) .compression ≡ 0) × ((segmentOf p k) .source ≡ 0) × ((segmentOf p k) .len ≡ 0)
   pub targetless : (k : ℕ) → k < p .count → (HasTarget (segmentOf p k) → ⊥) → ((segmentOf p k) .memlen ≡ 0) × (((segmentOf p k) .kind ≡ entryType → ⊥) → (segmentOf p k) .load ≡ 0)

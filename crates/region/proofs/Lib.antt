@@ -1,3 +1,4 @@
 pub mod Numbers
 pub mod Telling
 pub mod Listing
+pub mod Worked

@@ -5,7 +5,7 @@ use mathlib.Core.Path.{_≡_, refl}
 use mathlib.Core.Bool.{true}
 use mathlib.Core.List.{List}
 use lib.ListN.{length, getD}
-use borrow.Author.Tests.{eqb-true}
+use borrow.Author.Tests.{leb-true, eqb-true}
 use Rattle.terms.specs.Refusals.{test, firstFailed}
 use Rattle.terms.specs.Terms.{refusedBy}
 use Rattle.terms.specs.declared.Region.{Region}
@@ -49,6 +49,7 @@ module _ (i s : List ℕ) (t : Taken) (place : Located i s t) (ok : number (stag
         source = record { from = b .0; to = b .1; within = omega (arith, b, inside i s t place .within) };
         range = target-in (binary .load) (binary .memlen) (passed 5);
         memory = len-in (binary .compression) (binary .len) (binary .memlen) (passed 4);
+        compressed = leb-true (binary .compression) 2 (passed 2);
       }
 
 module _ (i : List ℕ) (g : Region) (name : List ℕ) where
@@ -60,7 +61,7 @@ module _ (i : List ℕ) (g : Region) (name : List ℕ) where
   unfolding stageIn
   stage-accepted h =
       let (t, f, z) = found-plan number refusedStage (λ r. refl) i g name (λ t. stageOf t content) h in
-      let l = located i g name t f in
+      let l = located i g true name t f in
       (t, f, rw (f, staged i content t l z .1) (holds i content t l z))
 
   -- A refusal has its number, tells place 0, and is zero otherwise.

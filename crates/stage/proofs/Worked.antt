@@ -36,6 +36,9 @@ stages =
     ∷ (23, header 0 0x1000 0x1000 9 0 ++ replicate 8 0)
     ∷ (24, header 0 0x1000 0x1000 8 7 ++ replicate 8 0)
     ∷ (0, header 1 0x1000 0x1000 8 7 ++ replicate 8 0)
+    -- the order: 24 before 25
+    ∷ (24, header 0 (2 ^ 64 - 2) (2 ^ 64 - 2) 8 3 ++ replicate 8 0)
+    ∷ (25, header 1 (2 ^ 64 - 2) (2 ^ 64 - 2) 8 3 ++ replicate 8 0)
     ∷ []
 
 abbrev agrees : ℕ × List ℕ → Bool

@@ -21,3 +21,5 @@ pub record AcceptedStage (i s : List ℕ) (t : Taken) (p : StagePlan) : Type 0 w
   pub range : p .load + p .memlen ≤ 2 ^ 64
   -- Uncompressed bytes are no more than the memory for them.
   pub memory : p .compression ≡ 0 → p .len ≤ p .memlen
+  -- "compression above 2" is refused.
+  pub compressed : p .compression ≤ 2
