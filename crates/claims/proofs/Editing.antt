@@ -8,9 +8,11 @@ use mathlib.Core.Bool.{Bool, true, false, cond, not, _&&_, true≢false}
 use lib.ListN.{length, getD}
 use lib.Dec.{eqb, ltb, leb}
 use borrow.Author.Tests.{leb-true, eq-eqb, ne-eqb, eqb-true, eqb-false, lt-ltb, le-ltb, ltb-true, ltb-false}
-use Rattle.walk.specs.Walk.{Entry, end, plainListing, guardedListing}
+use Rattle.walk.specs.Walk.{Entry, end, plainListing, guardedListing, Place}
+use Rattle.walk.proofs.Members.{given}
+use Rattle.lookup.proofs.Answers.{lookup-member}
 use Rattle.lookup.specs.Lookup.{Answer, refused, gives, lookupOf}
-use Rattle.terms.specs.Terms.{bytesOf, refusedBy}
+use Rattle.terms.specs.Terms.{bytesOf}
 use Rattle.terms.specs.declared.Region.{Region}
 use Rattle.master.specs.Master.{master}
 use Rattle.master.specs.declared.Master.the-variants.{Read}
@@ -27,12 +29,11 @@ use Rattle.editor.specs.declared.Edited.the-variants.{Done}
 use Rattle.editor.proofs.Around.{Around, add-around, replace-around, remove-around, done-place, replace-promise, remove-promise}
 use Rattle.region.specs.Region.{takenAt, foundAt}
 use Rattle.region.specs.declared.Found.the-variants.{At}
-use Rattle.region.specs.declared.Found.the-variants.{Refused as FoundRefused}
 use Rattle.finding.specs.Finding.{findOf, contentFoundBy}
 use Rattle.editing.specs.Editing.{removed}
-use Rattle.claims.specs.Demand3.{AcceptedImage, placed, guardedEntries, inSlots}
-use Rattle.claims.specs.Demand2.{entries, entryAt, FoundThere, Leaves, AddDone, ReplaceDone, RemoveDone}
-use Rattle.claims.proofs.Images.{keep-map, bytes-length, bytes-at, slot-inner, same-told, through}
+use Rattle.claims.specs.Demand3.{AcceptedImage, placed, entries, guardedEntries, Gives, Refuses, inSlots}
+use Rattle.claims.specs.Demand2.{entryAt, Leaves, AddDone, ReplaceDone, RemoveDone}
+use Rattle.claims.proofs.Images.{keep-map, bytes-length, bytes-at, slot-inner, same-told, through, gives-there, refuses-there}
 use Rattle.claims.proofs.Accepting.{strict-check-accepts}
 
 -- Places told from another start compare as before.
@@ -109,7 +110,7 @@ module _ (i : List ℕ) (g : Region) (read : master i ≡ Read g) (y i′ : List
 
   untouched : (name : List ℕ) → Others (bytesOf i g) (g .align) name (bytesOf i′ g)
       → (t : Entry) → List·Memᴰ t (guardedEntries i g) → (t .component .name ≡ name → ⊥) → (j : ℕ) → t .place ≤ j → j < end t → getD i′ j 0 ≡ getD i j 0
-  untouched name o = through g i (λ t. (t .component .name ≡ name → ⊥) → (j : ℕ) → t .place ≤ j → j < end t → getD i′ j 0 ≡ getD i j 0) (λ t m h j lo hi. go t m h (j - g .start) j (omega arith) lo hi)
+  untouched name o = through true g i (λ t. (t .component .name ≡ name → ⊥) → (j : ℕ) → t .place ≤ j → j < end t → getD i′ j 0 ≡ getD i j 0) (λ t m h j lo hi. go t m h (j - g .start) j (omega arith) lo hi)
     where
       go : (t : Entry) → List·Memᴰ t (guardedListing (bytesOf i g) (g .align)) → (t .component .name ≡ name → ⊥) → (k j : ℕ) → j ≡ g .start + k
           → g .start + t .place ≤ j → j < end (placed g t) → getD i′ j 0 ≡ getD i j 0
@@ -148,20 +149,17 @@ module _ (i : List ℕ) (g : Region) (read : master i ≡ Read g) (y i′ : List
   }
 
   -- What both lookups of the region's bytes give, both lookups of the image give.
-  there : (name : List ℕ) (t : Entry) → Finds (bytesOf i′ g) (g .align) name t → FoundThere i′ (g .start + t .place) name (t .component .kind) (t .component .content)
-  there name t f = record { found = λ w. (takenAt i′ g t, rw (read′, both w), refl, refl); given = λ w. rw (read′, both w) }
-    where
-      both : (w : Bool) → lookupOf w (bytesOf i′ g) (g .align) name ≡ gives t
-      both true = f .guardedly
-      both false = f .plainly
+  there : (t : Entry) → Finds (bytesOf i′ g) (g .align) (t .component .name) t → (w : Bool) → Gives w i′ (placed g t)
+  there t f true = gives-there i′ g read′ true t (f .guardedly)
+  there t f false = gives-there i′ g read′ false t (f .plainly)
 
-  -- Bytes of the slot at p from n on that are 0xFF.
-  ones-there : (p n : ℕ) → ((k : ℕ) → hit (λ q. eqb q p) (bytesOf i g) (g .align) k ≡ true → n ≤ k → getD (bytesOf i′ g) k 0 ≡ 255)
-      → (j : ℕ) → inSlots (λ q. eqb q (g .start + p)) i g j ≡ true → g .start + n ≤ j → getD i′ j 0 ≡ 255
-  ones-there p n same j e h = go (j - g .start) (omega arith) (decLt j (g .end))
+  -- Bytes from n on that are 0xFF, of the slot at p of an image s.
+  ones-there : (s : List ℕ) (p n : ℕ) → ((k : ℕ) → hit (λ q. eqb q p) (bytesOf s g) (g .align) k ≡ true → n ≤ k → getD (bytesOf i′ g) k 0 ≡ 255)
+      → (j : ℕ) → inSlots (λ q. eqb q (g .start + p)) s g j ≡ true → g .start + n ≤ j → getD i′ j 0 ≡ 255
+  ones-there s p n same j e h = go (j - g .start) (omega arith) (decLt j (g .end))
     where
       go : (k : ℕ) → j ≡ g .start + k → Dec (j < g .end) → getD i′ j 0 ≡ 255
-      go k q (yes l) = let f : k < g .end - g .start = omega arith in rw q (sym (bytes-at i g read i′ k (ar .alike) f) ∙ same k (sym (slot-there i p k f) ∙ rw q at e) (omega arith))
+      go k q (yes l) = let f : k < g .end - g .start = omega arith in rw q (sym (bytes-at i g read i′ k (ar .alike) f) ∙ same k (sym (slot-there s p k f) ∙ rw q at e) (omega arith))
       go k q (no m) = absurd (true≢false (sym e ∙ past (leb (g .start) j) _ (le-ltb j (g .end) (omega arith))))
         where
           past : (b c : Bool) {d : Bool} → d ≡ false → b && d && c ≡ false
@@ -213,12 +211,17 @@ module _ (i : List ℕ) (g : Region) (read : master i ≡ Read g) where
             → AddDone i g name kind content (g .start + p) i₁
         go p acc a u = record {
           leaves = leaves i g read _ i₁ ar₁ name p i₁ (a .accepted) (a .others) (λ k f. sym (a .slot .rest k f));
-          there = there i g read _ i₁ ar₁ name (entryAt p name kind content) (a .finds);
+          there = there i g read _ i₁ ar₁ (entryAt p name kind content) (a .finds);
           listed = listed;
+          free = (p, refl, there-place, held-exactly r (g .align) (omega (arith, big)) small acc p (length (spanBytes name kind content)) there-place .0 (a .held));
           lowest = λ q pl f. let l = a .least q (held-exactly r (g .align) (omega (arith, big)) small acc q (length (spanBytes name kind content)) pl .1 f) in omega arith;
+          ones = λ j k l. ones-there i g read _ i₁ ar₁ i₁ p (p + length (spanBytes name kind content)) (a .ones) j k (omega arith);
           undone = undone p u;
         }
           where
+            there-place : Place (g .align) p
+            there-place = given true (bytesOf i₁ g) (g .align) _ (lookup-member true (bytesOf i₁ g) (g .align) name (entryAt p name kind content) (a .finds .guardedly) .0) .at
+
             small : length r ≤ 0xFFFFFFFF
             small = omega (arith, bytes-length i g read i refl, known i g read .short, known i g read .inside)
 
@@ -241,9 +244,9 @@ module _ (i : List ℕ) (g : Region) (read : master i ≡ Read g) where
         leaves = leaves i g read _ _ ar₂ name p i (d .accepted) (d .others) (d .slot .rest);
         kind = d .old .component .kind;
         was = (takenAt i g (d .old), rw (read, d .was), ap (λ (m : ℕ). g .start + m) (d .there), refl);
-        there = there i g read _ _ ar₂ name (entryAt p name (d .old .component .kind) content) (d .finds);
+        there = there i g read _ _ ar₂ (entryAt p name (d .old .component .kind) content) (d .finds);
         listed = listed;
-        ones = λ j k l. ones-there i g read _ _ ar₂ p (p + length (spanBytes name (d .old .component .kind) content)) (d .ones) j k (omega arith);
+        ones = λ j k l. ones-there i g read _ _ ar₂ i p (p + length (spanBytes name (d .old .component .kind) content)) (d .ones) j k (omega arith);
       }
         where
           listed : (w : Bool) → entries w (replaceIn i g name content .image) g ≡ instead (entryAt (g .start + p) name (d .old .component .kind) content) (entries w i g)
@@ -263,12 +266,12 @@ module _ (i : List ℕ) (g : Region) (read : master i ≡ Read g) where
         was = (takenAt i g (d .old), rw (read, d .was), ap (λ (m : ℕ). g .start + m) (d .there));
         gone = gone;
         listed = listed;
-        ones = λ j k. ones-there i g read _ _ ar₃ p 0 (λ m f n. d .ones m f) j k (omega (arith, slot-start i g read _ _ ar₃ (λ m. eqb m (g .start + p)) j k));
+        ones = λ j k. ones-there i g read _ _ ar₃ i p 0 (λ m f n. d .ones m f) j k (omega (arith, slot-start i g read _ _ ar₃ (λ m. eqb m (g .start + p)) j k));
       }
         where
-          gone : (w : Bool) → (findOf w (removeIn i g name .image) name ≡ FoundRefused (refusedBy 10)) × (contentFoundBy w (removeIn i g name .image) name ≡ [])
-          gone true = (rw (read′ i g read _ _ ar₃, d .gone .0), rw (read′ i g read _ _ ar₃, d .gone .0))
-          gone false = (rw (read′ i g read _ _ ar₃, d .gone .1), rw (read′ i g read _ _ ar₃, d .gone .1))
+          gone : (w : Bool) → Refuses w (removeIn i g name .image) name 10
+          gone true = refuses-there _ g (read′ i g read _ _ ar₃) true name 10 (d .gone .0)
+          gone false = refuses-there _ g (read′ i g read _ _ ar₃) false name 10 (d .gone .1)
 
           listed : (w : Bool) → entries w (removeIn i g name .image) g ≡ without (g .start + p) (entries w i g)
           listed true = ap (map (placed g)) (d .guardedly) ∙ without-placed g p (guardedListing r (g .align))

@@ -11,7 +11,8 @@ use lib.ListN.{length, getD, drop, length-take, length-drop, List·getD-eq-defau
 use lib.Seq.{getD-take, getD-drop}
 use borrow.Author.Tests.{le-leb, lt-ltb}
 use Rattle.number.specs.Lists.{any, keep}
-use Rattle.walk.specs.Walk.{Entry, onward, guardedListing}
+use Rattle.walk.specs.Walk.{Entry, onward, listing}
+use Rattle.lookup.specs.Lookup.{refused, gives, lookupOf}
 use Rattle.strict.specs.Slots.{hit}
 use Rattle.terms.specs.Terms.{bytesOf}
 use Rattle.terms.specs.declared.Region.{Region}
@@ -20,7 +21,7 @@ use Rattle.master.specs.Master.{master}
 use Rattle.master.specs.declared.Master.the-variants.{Read}
 use Rattle.master.proofs.Facts.{Known, known}
 use Rattle.region.specs.Region.{takenAt}
-use Rattle.claims.specs.Demand3.{placed, guardedEntries, inSlots}
+use Rattle.claims.specs.Demand3.{placed, regionListing, entries, Gives, Refuses, inSlots}
 
 -- Lists through a map.
 
@@ -85,5 +86,15 @@ module _ (i : List ℕ) (g : Region) (read : master i ≡ Read g) where
   same-told x e t = rw (bytes-length x e, bytes-length i refl)
 
 -- Whatever a listed component is, it comes from the region's listing.
-pub through : (g : Region) (x : List ℕ) (P : Entry → Type 0) → ((t : Entry) → List·Memᴰ t (guardedListing (bytesOf x g) (g .align)) → P (placed g t)) → (t : Entry) → List·Memᴰ t (guardedEntries x g) → P t
-through g x P h t m = let (u, n, e) = mem-map (guardedListing (bytesOf x g) (g .align)) t m in subst P (sym e) (h u n)
+pub through : (w : Bool) (g : Region) (x : List ℕ) (P : Entry → Type 0) → ((t : Entry) → List·Memᴰ t (regionListing w x g) → P (placed g t))
+    → (t : Entry) → List·Memᴰ t (entries w x g) → P t
+through w g x P h t m = let (u, n, e) = mem-map (regionListing w x g) t m in subst P (sym e) (h u n)
+
+-- What a lookup of the region's bytes gives, the lookup of the image gives.
+pub gives-there : (i : List ℕ) (g : Region) → master i ≡ Read g → (w : Bool) (t : Entry)
+    → lookupOf w (bytesOf i g) (g .align) (t .component .name) ≡ gives t → Gives w i (placed g t)
+gives-there i g read w t e = record { taken = takenAt i g t; found = rw (read, e); place = refl; header = refl; content = rw (read, e) }
+
+pub refuses-there : (i : List ℕ) (g : Region) → master i ≡ Read g → (w : Bool) (name : List ℕ) (n : ℕ)
+    → lookupOf w (bytesOf i g) (g .align) name ≡ refused n → Refuses w i name n
+refuses-there i g read w name n e = (rw (read, e), rw (read, e))

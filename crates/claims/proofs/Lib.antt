@@ -6,3 +6,6 @@ pub mod Editing
 pub mod Edits
 pub mod Plans
 pub mod WorkedPlans
+pub mod Refusing
+pub mod Parts
+pub mod WorkedImages

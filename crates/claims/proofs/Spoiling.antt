@@ -2,7 +2,7 @@
 use Prim.Native.Nat.{ℕ, _+_, _-_, _≤_, _<_}
 use native.Mathlib.Omega.{arith}
 use mathlib.Core.Path.{_≡_, refl, sym, ap, _∙_}
-use mathlib.Core.List.{List, [], map, List·Memᴰ}
+use mathlib.Core.List.{List, map, List·Memᴰ}
 use mathlib.Core.Bool.{Bool, true, false, cond, not, _&&_}
 use lib.ListN.{length}
 use lib.Dec.{leb}
@@ -15,17 +15,16 @@ use Rattle.strict.specs.Strict.{Accepted}
 use Rattle.strict.specs.Slots.{hit, Spoilt, Kept}
 use Rattle.strict.proofs.Accepting.{spoiling, walks-agree}
 use Rattle.strict.proofs.Bearing.{lone}
-use Rattle.terms.specs.Terms.{bytesOf, refusedBy}
+use Rattle.terms.specs.Terms.{bytesOf}
 use Rattle.terms.specs.declared.Region.{Region}
 use Rattle.master.specs.Master.{master}
 use Rattle.master.specs.declared.Master.the-variants.{Read}
 use Rattle.master.proofs.Facts.{known, same-region}
-use Rattle.region.specs.Region.{takenAt, foundAt, contentFound}
-use Rattle.region.specs.declared.Found.the-variants.{At, Refused}
-use Rattle.finding.specs.Finding.{guardedFind, guardedContent}
-use Rattle.claims.specs.Demand3.{placed, guardedEntries, inSlots, fromSlots, Spoiled, rivalled, Demand3}
-use Rattle.claims.proofs.Images.{map-mem, keep-map, any-map, bytes-length, same-bytes, slot-inner, same-told, through}
-use Rattle.claims.proofs.Theorems.{guarded-listing-is-steps}
+use Rattle.region.specs.declared.Found.the-variants.{At}
+use Rattle.finding.specs.Finding.{guardedFind}
+use Rattle.claims.specs.Demand3.{placed, guardedEntries, Gives, Refuses, inSlots, fromSlots, Spoiled, rivalled, Demand3}
+use Rattle.claims.proofs.Images.{map-mem, keep-map, any-map, bytes-length, same-bytes, slot-inner, same-told, through, gives-there, refuses-there}
+use Rattle.claims.proofs.Theorems.{guarded-listing-is-steps, listed-parts}
 
 -- An image that the strict check accepts, its region, any set of its slots, and the image with these slots spoiled.
 module _ (i : List ℕ) (g : Region) (read : master i ≡ Read g) (acc : Accepted (bytesOf i g) (g .align)) (set : ℕ → Bool) (i′ : List ℕ) (sp : Spoiled set i g i′) where
@@ -69,44 +68,38 @@ module _ (i : List ℕ) (g : Region) (read : master i ≡ Read g) (acc : Accepte
       let k = keep-map (fromSlots set i g) (λ t. hit inner (bytesOf i g) (g .align) (t .place)) (placed g) (guardedListing (bytesOf i′ g) (g .align)) (told-slot i′ (sp .alike)) in
       ap (any (bears name)) k ∙ any-map (bears name) (placed g) (keep (λ t. hit inner (bytesOf i g) (g .align) (t .place)) (guardedListing (bytesOf i′ g) (g .align))) (same-bears name)
 
-  found : (t : Entry) → List·Memᴰ t (guardedListing (bytesOf i g) (g .align)) → fromSlots set i g (placed g t) ≡ false
-      → guardedFind i′ (t .component .name) ≡ cond (rivalled set i g i′ (t .component .name)) (Refused (refusedBy 11)) (guardedFind i (t .component .name))
-  found t m f =
-      let l = kept .lookup t m (sym (told-slot i refl t m) ∙ f) in
-      rw (read, read′, l, alone t m, same-rival (t .component .name)) (go (any (bears (t .component .name)) (keep (λ u. hit inner (bytesOf i g) (g .align) (u .place)) (guardedListing (bytesOf i′ g) (g .align)))))
-    where
-      go : (b : Bool) → foundAt i′ g (cond b (refused 11) (gives t)) ≡ cond b (Refused (refusedBy 11)) (At (takenAt i g t))
-      go true = refl
-      go false = ap At (same-told i g read i′ (sp .alike) t)
+  -- What the guarded lookup of an untouched component's name answers on the spoiled region.
+  looked : (t : Entry) → List·Memᴰ t (guardedListing (bytesOf i g) (g .align)) → fromSlots set i g (placed g t) ≡ false
+      → guardedLookup (bytesOf i′ g) (g .align) (t .component .name) ≡ cond (rivalled set i g i′ (t .component .name)) (refused 11) (gives t)
+  looked t m f = kept .lookup t m (sym (told-slot i refl t m) ∙ f) ∙ rw (same-rival (t .component .name))
 
-  given-content : (t : Entry) → List·Memᴰ t (guardedListing (bytesOf i g) (g .align)) → fromSlots set i g (placed g t) ≡ false
-      → guardedContent i′ (t .component .name) ≡ cond (rivalled set i g i′ (t .component .name)) [] (t .component .content)
-  given-content t m f =
-      let l = kept .lookup t m (sym (told-slot i refl t m) ∙ f) in
-      rw (read′, l, same-rival (t .component .name)) (go (any (bears (t .component .name)) (keep (λ u. hit inner (bytesOf i g) (g .align) (u .place)) (guardedListing (bytesOf i′ g) (g .align)))))
-    where
-      go : (b : Bool) → contentFound (cond b (refused 11) (gives t)) ≡ cond b [] (t .component .content)
-      go true = refl
-      go false = refl
-
-  before-content : (t : Entry) → List·Memᴰ t (guardedListing (bytesOf i g) (g .align)) → guardedContent i (t .component .name) ≡ t .component .content
-  before-content t m = rw (read, alone t m)
+  as-before : (t : Entry) → List·Memᴰ t (guardedListing (bytesOf i g) (g .align)) → fromSlots set i g (placed g t) ≡ false
+      → rivalled set i g i′ (t .component .name) ≡ false
+      → Gives true i′ (placed g t) × (guardedFind i′ (t .component .name) ≡ guardedFind i (t .component .name))
+  as-before t m f n =
+      let l : guardedLookup (bytesOf i′ g) (g .align) (t .component .name) ≡ gives t = rw n at (looked t m f) in
+      (gives-there i′ g read′ true t l, rw (read, read′, l, alone t m) (ap At (same-told i g read i′ (sp .alike) t)))
 
   -- Demand 3, whole.
   pub demand-3 : Demand3 set i g i′
   demand-3 = record {
     steps = guarded-listing-is-steps i′ g read′;
-    listed = through g i (λ t. fromSlots set i g t ≡ false → List·Memᴰ t (guardedEntries i′ g))
+    read = read′;
+    parts = listed-parts i′ g read′ true;
+    listed = through true g i (λ t. fromSlots set i g t ≡ false → List·Memᴰ t (guardedEntries i′ g))
         (λ t m f. map-mem (placed g) (guardedListing (bytesOf i′ g) (g .align)) t (kept .listed t m (sym (told-slot i refl t m) ∙ f)));
-    rest = keep-map (λ t. not (fromSlots set i g t)) (λ t. not (hit inner (bytesOf i g) (g .align) (t .place))) (placed g) (guardedListing (bytesOf i′ g) (g .align)) (λ t m. ap not (told-slot i′ (sp .alike) t m))
-        ∙ ap (map (placed g)) (kept .rest)
-        ∙ sym (keep-map (λ t. not (fromSlots set i g t)) (λ t. not (hit inner (bytesOf i g) (g .align) (t .place))) (placed g) (guardedListing (bytesOf i g) (g .align)) (λ t m. ap not (told-slot i refl t m)));
-    inside = through g i′ (λ t. fromSlots set i g t ≡ true → (j : ℕ) → t .place ≤ j → j < end t → inSlots set i g j ≡ true) (λ t m f j lo hi. within t m f (j - g .start) j (omega arith) lo hi);
-    lookup = through g i (λ t. fromSlots set i g t ≡ false → guardedFind i′ (t .component .name) ≡ cond (rivalled set i g i′ (t .component .name)) (Refused (refusedBy 11)) (guardedFind i (t .component .name))) found;
-    content = through g i (λ t. fromSlots set i g t ≡ false → guardedContent i′ (t .component .name) ≡ cond (rivalled set i g i′ (t .component .name)) [] (t .component .content)) given-content;
-    before = through g i (λ t. guardedContent i (t .component .name) ≡ t .component .content) before-content;
+    rest = kept-rest i′ (sp .alike) ∙ ap (map (placed g)) (kept .rest) ∙ sym (kept-rest i refl);
+    inside = through true g i′ (λ t. fromSlots set i g t ≡ true → (j : ℕ) → t .place ≤ j → j < end t → inSlots set i g j ≡ true) (λ t m f j lo hi. within t m f (j - g .start) j (omega arith) lo hi);
+    before = through true g i (Gives true i) (λ t m. gives-there i g read true t (alone t m));
+    lookup = through true g i (λ t. fromSlots set i g t ≡ false → rivalled set i g i′ (t .component .name) ≡ false → Gives true i′ t × (guardedFind i′ (t .component .name) ≡ guardedFind i (t .component .name))) as-before;
+    refused = through true g i (λ t. fromSlots set i g t ≡ false → rivalled set i g i′ (t .component .name) ≡ true → Refuses true i′ (t .component .name) 11)
+        (λ t m f r. refuses-there i′ g read′ true (t .component .name) 11 (rw r at (looked t m f)));
   }
     where
+      kept-rest : (x : List ℕ) → length x ≡ length i
+          → keep (λ t. not (fromSlots set i g t)) (guardedEntries x g) ≡ map (placed g) (keep (λ t. not (hit inner (bytesOf i g) (g .align) (t .place))) (guardedListing (bytesOf x g) (g .align)))
+      kept-rest x e = keep-map (λ t. not (fromSlots set i g t)) (λ t. not (hit inner (bytesOf i g) (g .align) (t .place))) (placed g) (guardedListing (bytesOf x g) (g .align)) (λ t m. ap not (told-slot x e t m))
+
       within : (t : Entry) → List·Memᴰ t (guardedListing (bytesOf i′ g) (g .align)) → fromSlots set i g (placed g t) ≡ true → (k j : ℕ) → j ≡ g .start + k
           → g .start + t .place ≤ j → j < end (placed g t) → inSlots set i g j ≡ true
       within t m f k j e lo hi =

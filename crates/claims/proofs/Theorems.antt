@@ -1,37 +1,45 @@
 -- What is proved of whole images, over the definitions that the contracts of the public calls cite.
-use Prim.Native.Nat.{ℕ, _*_, _%_, _^_, _≤_, _<_}
+use Prim.Native.Nat.{ℕ, _+_, _-_, _*_, _%_, _^_, _≤_, _<_}
+use native.Mathlib.Nat.{mul-mod-left, add-sub-cancel-left}
 use native.Mathlib.Omega.{arith}
-use mathlib.Core.Path.{_≡_, refl, sym, ap, subst}
+use mathlib.Core.Path.{_≡_, refl, sym, subst, _∙_}
 use mathlib.Core.List.{List, map, List·Memᴰ}
 use mathlib.Core.Logic.{_↔_}
-use mathlib.Core.Bool.{Bool, true, false}
-use Rattle.walk.specs.Walk.{Entry, placesBelow, pickOf, listing, plainListing, guardedListing, Rounded}
-use Rattle.lookup.specs.Lookup.{Answer, refused, gives, bears, plainLookup, FirstBearer}
+use mathlib.Core.Bool.{Bool, true, false, true≢false}
+use lib.ListN.{drop}
+use borrow.Author.Tests.{eq-eqb}
+use Rattle.component.specs.Names.{nameFits}
+use Rattle.component.proofs.Judging.{judge-name}
+use Rattle.walk.specs.Walk.{Entry, placesBelow, listing, plainListing, guardedListing, Rounded}
 use Rattle.walk.specs.declared.Taken.{Taken}
+use Rattle.walk.proofs.Members.{Given, given}
 use Rattle.walk.proofs.Rounding.{rounded}
-use Rattle.lookup.proofs.Bearers.{first-bearer, no-bearer}
-use Rattle.terms.specs.Terms.{bytesOf, refusedBy}
+use Rattle.lookup.specs.Lookup.{Answer, refused, gives, lookupOf, FirstBearer, OnlyBearer}
+use Rattle.lookup.proofs.Bearers.{first-bearer, only-bearer}
+use Rattle.terms.specs.Terms.{bytesOf}
 use Rattle.terms.specs.declared.Region.{Region}
-use Rattle.terms.specs.declared.Refusal.{Refusal}
 use Rattle.master.specs.Master.{master}
 use Rattle.master.specs.declared.Master.{Master}
 use Rattle.master.specs.declared.Master.the-variants.{Read}
 use Rattle.master.proofs.Facts.{Known, known, align-power}
-use Rattle.region.specs.Region.{stepIn, stepFits, takenAt, foundAt, Walked}
+use Rattle.edit.specs.Table.{UnfitName}
+use Rattle.edit.proofs.Exactly.{name-words}
+use Rattle.region.specs.Region.{stepIn, stepFits, takenAt, foundAt, fromPlace, Walked}
 use Rattle.region.specs.declared.Found.the-variants.{At}
-use Rattle.region.specs.declared.Found.the-variants.{Refused as FoundRefused}
 use Rattle.region.proofs.Numbers as Numbers
 use Rattle.region.proofs.Listing as Listing
 use Rattle.reading.specs.Reading.{stepOn, stepOf, plainStep, guardedStep}
-use Rattle.finding.specs.Finding.{plainFind, plainContent}
+use Rattle.finding.specs.Finding.{findOf, plainFind, plainContent, guardedFind, guardedContent, contentFoundBy}
+use Rattle.claims.specs.Demand3.{placed, regionListing, entries, PartsAt}
+use Rattle.claims.proofs.Images.{bytes-length, through}
 
 -- An image i that is read, and its region g.
 module _ (i : List ℕ) (g : Region) (read : master i ≡ Read g) where
   facts : Known i g
   facts = known i g read
 
-  listing-is-steps : (w : Bool) → Walked (stepOf w i) (g .start) (map (takenAt i g) (listing (pickOf w (bytesOf i g) (g .align)) (bytesOf i g) (g .align)))
-  listing-is-steps w = subst (λ (m : Master). Walked (λ n. stepOn m (λ h. stepIn w i h n)) (g .start) (map (takenAt i g) (listing (pickOf w (bytesOf i g) (g .align)) (bytesOf i g) (g .align)))) (sym read)
+  listing-is-steps : (w : Bool) → Walked (stepOf w i) (g .start) (map (takenAt i g) (regionListing w i g))
+  listing-is-steps w = subst (λ (m : Master). Walked (λ n. stepOn m (λ h. stepIn w i h n)) (g .start) (map (takenAt i g) (regionListing w i g))) (sym read)
       (Listing.listing-walked w i g (omega (arith, facts .least)) (facts .forward) (facts .inside))
 
   -- The plain listing is the plain steps from offset to none left, each next one from the number that the last one gave.
@@ -42,26 +50,32 @@ module _ (i : List ℕ) (g : Region) (read : master i ≡ Read g) where
   pub guarded-listing-is-steps : Walked (guardedStep i) (g .start) (map (takenAt i g) (guardedListing (bytesOf i g) (g .align)))
   guarded-listing-is-steps = listing-is-steps true
 
-  -- The plain lookup gives the first bearer in the plain listing, its place told from the image's start, and its content.
+  -- What a lookup found is a component of its listing, its place told from the image's start, and its content.
+  pub found-entry : (w : Bool) (name : List ℕ) (t : Taken) → findOf w i name ≡ At t
+      → (e : Entry) × (lookupOf w (bytesOf i g) (g .align) name ≡ gives e) × (takenAt i g e ≡ t) × (contentFoundBy w i name ≡ e .component .content)
+  found-entry w name t f = go (lookupOf w (bytesOf i g) (g .align) name) refl (rw read at f)
+    where
+      go : (o : Answer) → lookupOf w (bytesOf i g) (g .align) name ≡ o → foundAt i g o ≡ At t
+          → (e : Entry) × (lookupOf w (bytesOf i g) (g .align) name ≡ gives e) × (takenAt i g e ≡ t) × (contentFoundBy w i name ≡ e .component .content)
+      go (refused n) q f′ = let z : _≡_ {A = ℕ} 0 1 = cc in absurd (omega arith)
+      go (gives e) q f′ = (e, q, (cc), rw (read, q))
+
+  -- The plain lookup gives the first bearer in the plain listing.
   pub plain-lookup-gives-first : (name : List ℕ) (t : Taken) → plainFind i name ≡ At t
       → (e : Entry) × FirstBearer name (plainListing (bytesOf i g) (g .align)) e × (takenAt i g e ≡ t) × (plainContent i name ≡ e .component .content)
-  plain-lookup-gives-first name t f = go (plainLookup (bytesOf i g) (g .align) name) refl (rw read at f)
-    where
-      go : (o : Answer) → plainLookup (bytesOf i g) (g .align) name ≡ o → foundAt i g o ≡ At t
-          → (e : Entry) × FirstBearer name (plainListing (bytesOf i g) (g .align)) e × (takenAt i g e ≡ t) × (plainContent i name ≡ e .component .content)
-      go (refused n) q f′ = let z : _≡_ {A = ℕ} 0 1 = cc in absurd (omega arith)
-      go (gives e) q f′ = (e, first-bearer name (plainListing (bytesOf i g) (g .align)) e q, (cc), rw (read, q))
+  plain-lookup-gives-first name t f = let (e, q, u, c) = found-entry false name t f in (e, first-bearer name (plainListing (bytesOf i g) (g .align)) e q, u, c)
 
-  -- It refuses with 10 exactly if nobody bears the name.
-  pub plain-lookup-ten : (name : List ℕ) → (plainFind i name ≡ FoundRefused (refusedBy 10)) ↔ ((x : Entry) → List·Memᴰ x (plainListing (bytesOf i g) (g .align)) → bears name x ≡ false)
-  plain-lookup-ten name = (λ f. ten .0 (back (plainLookup (bytesOf i g) (g .align) name) (rw read at f)), λ h. rw (read, ten .1 h))
-    where
-      ten : (plainLookup (bytesOf i g) (g .align) name ≡ refused 10) ↔ ((x : Entry) → List·Memᴰ x (plainListing (bytesOf i g) (g .align)) → bears name x ≡ false)
-      ten = no-bearer name (plainListing (bytesOf i g) (g .align))
+  -- The guarded lookup gives the only bearer in the guarded listing.
+  pub guarded-lookup-gives-only : (name : List ℕ) (t : Taken) → guardedFind i name ≡ At t
+      → (e : Entry) × OnlyBearer name (guardedListing (bytesOf i g) (g .align)) e × (takenAt i g e ≡ t) × (guardedContent i name ≡ e .component .content)
+  guarded-lookup-gives-only name t f = let (e, q, u, c) = found-entry true name t f in (e, only-bearer name (guardedListing (bytesOf i g) (g .align)) e q, u, c)
 
-      back : (o : Answer) → foundAt i g o ≡ FoundRefused (refusedBy 10) → o ≡ refused 10
-      back (refused n) f = let q : refusedBy n ≡ refusedBy 10 = cc in ap refused (ap (λ (r : Refusal). r .number) q)
-      back (gives e) f = let z : _≡_ {A = ℕ} 0 1 = cc in absurd (omega arith)
+  -- "An unfit one is simply borne by nobody": no listed component has such a name.
+  pub unfit-borne-by-nobody : (w : Bool) (name : List ℕ) → UnfitName name → (t : Entry) → List·Memᴰ t (entries w i g) → t .component .name ≡ name → ⊥
+  unfit-borne-by-nobody w name u = through w g i (λ t. t .component .name ≡ name → ⊥) (λ t m e. true≢false (sym (fit t m) ∙ name-words (t .component .name) .1 (rw e u)))
+    where
+      fit : (t : Entry) → List·Memᴰ t (regionListing w i g) → nameFits (t .component .name) ≡ true
+      fit t m = judge-name (drop (t .place) (bytesOf i g)) (t .component) (given w (bytesOf i g) (g .align) t m .judged) .0
 
   -- Places, counted from the region's start, are document 01's multiples of align in the region.
   pub places-are-multiples : (p : ℕ) → p < g .end → (stepFits g p ≡ true) ↔ ((g .start ≤ p) × (p % g .align ≡ 0))
@@ -70,3 +84,23 @@ module _ (i : List ℕ) (g : Region) (read : master i ≡ Read g) where
   -- align is a power of two, and the rounding to places is to its first multiple at or after a number.
   pub rounds-to-places : (k : ℕ) × (g .align ≡ 2 ^ k) × ((n : ℕ) → Rounded (g .align) n (placesBelow (g .align) n * g .align))
   rounds-to-places = let (k, e) = align-power i g read in (k, e, λ n. rw e (rounded k n))
+
+  -- The name and the content of a component that a walk lists are those that name_at and content_at give at its place.
+  pub listed-parts : (w : Bool) (t : Entry) → List·Memᴰ t (entries w i g) → PartsAt i t
+  unfolding fromPlace
+  listed-parts w = through w g i (PartsAt i) (λ t m. at-place t (given w (bytesOf i g) (g .align) t m))
+    where
+      at-place : (t : Entry) → Given (bytesOf i g) (g .align) t → PartsAt i (placed g t)
+      at-place t v = let part = from-start t v in (rw (read, part, v .judged), rw (read, part, v .judged))
+        where
+          from-start : (t : Entry) → Given (bytesOf i g) (g .align) t → fromPlace i g (g .start + t .place) ≡ drop (t .place) (bytesOf i g)
+          from-start t v = rw (fits, add-sub-cancel-left (g .start) (t .place))
+            where
+              short : t .place < g .end - g .start
+              short = omega (arith, v .inside, bytes-length i g read i refl)
+
+              multiple : (g .start + t .place - g .start) % g .align ≡ 0
+              multiple = let (k, e) = v .at in rw (add-sub-cancel-left (g .start) (t .place), e) (mul-mod-left k (g .align))
+
+              fits : stepFits g (g .start + t .place) ≡ true
+              fits = sym (Numbers.fit-place g (g .start + t .place) (omega arith) (omega (arith, short)) (λ q. omega (arith, short))) ∙ eq-eqb _ 0 multiple

@@ -2,36 +2,27 @@
 -- definitions that the public calls' contracts cite. Where a Bool w chooses a walk, true is the guarded one.
 use Prim.Native.Nat.{ℕ, _+_, _≤_, _<_}
 use mathlib.Core.Path.{_≡_}
-use mathlib.Core.List.{List, [], map, List·Memᴰ}
+use mathlib.Core.List.{List, List·Memᴰ}
 use mathlib.Core.Bool.{Bool, true, false}
 use lib.ListN.{length, getD}
 use lib.Dec.{eqb}
-use Rattle.walk.specs.Walk.{Entry, end, pickOf, listing, Place}
+use Rattle.walk.specs.Walk.{Entry, end, Place}
 use Rattle.walk.specs.declared.Taken.{Taken}
-use Rattle.terms.specs.Terms.{bytesOf, refusedBy}
+use Rattle.terms.specs.Terms.{bytesOf}
 use Rattle.terms.specs.declared.Region.{Region}
 use Rattle.master.specs.Master.{master}
 use Rattle.master.specs.declared.Master.the-variants.{Read}
 use Rattle.edit.specs.Edit.{spanBytes, putIn, instead, without, made, Free}
 use Rattle.editor.specs.declared.Edited.the-variants.{Done}
-use Rattle.region.specs.declared.Found.the-variants.{At, Refused}
+use Rattle.region.specs.declared.Found.the-variants.{At}
 use Rattle.reading.specs.Reading.{strictCheck}
 use Rattle.finding.specs.Finding.{findOf, contentFoundBy}
 use Rattle.editing.specs.Editing.{removed}
-use Rattle.claims.specs.Demand3.{placed, guardedEntries, inSlots}
-
--- The listing of the image by a walk: each entry holds place, type, name and content.
-abbrev pub entries : Bool → List ℕ → Region → List Entry
-entries w i g = map (placed g) (listing (pickOf w (bytesOf i g) (g .align)) (bytesOf i g) (g .align))
+use Rattle.claims.specs.Demand3.{entries, guardedEntries, Gives, Refuses, inSlots}
 
 -- The component of these, at the place p.
 abbrev pub entryAt : ℕ → List ℕ → ℕ → List ℕ → Entry
 entryAt p name kind content = record { place = p; component = made name kind content }
-
--- "The new content is found under its name": by both lookups, at the place p, with the type.
-pub record FoundThere (i′ : List ℕ) (p : ℕ) (name : List ℕ) (kind : ℕ) (content : List ℕ) : Type 0 where
-  pub found : (w : Bool) → (t : Taken) × (findOf w i′ name ≡ At t) × (t .place ≡ p) × (t .header .kind ≡ kind)
-  pub given : (w : Bool) → contentFoundBy w i′ name ≡ content
 
 -- What every edit of a name that is done at the place p leaves. s is the image whose slot was written: the new one for add, else the old one.
 pub record Leaves (i : List ℕ) (g : Region) (name : List ℕ) (p : ℕ) (s i′ : List ℕ) : Type 0 where
@@ -49,11 +40,15 @@ pub record Leaves (i : List ℕ) (g : Region) (name : List ℕ) (p : ℕ) (s i�
 -- A component was added at p.
 pub record AddDone (i : List ℕ) (g : Region) (name : List ℕ) (kind : ℕ) (content : List ℕ) (p : ℕ) (i′ : List ℕ) : Type 0 where
   pub leaves : Leaves i g name p i′ i′
-  pub there : FoundThere i′ p name kind content
+  -- "The new content is found under its name": by both lookups, at the place p, with the type and the lengths.
+  pub there : (w : Bool) → Gives w i′ (entryAt p name kind content)
   -- Both listings are the old ones with the component put in.
   pub listed : (w : Bool) → entries w i′ g ≡ putIn (entryAt p name kind content) (entries w i g)
-  -- It stands at the lowest place at which it fits: no place below p has so many free bytes.
+  -- "Add uses the lowest place at which the component fits a free run" (document 01): p has so many free bytes, and no place below p has.
+  pub free : (q : ℕ) × (p ≡ g .start + q) × Place (g .align) q × Free (bytesOf i g) (g .align) q (length (spanBytes name kind content))
   pub lowest : (q : ℕ) → Place (g .align) q → Free (bytesOf i g) (g .align) q (length (spanBytes name kind content)) → p ≤ g .start + q
+  -- "After the written span, every byte to the next component's start or the region's end is 0xFF" (document 01).
+  pub ones : (j : ℕ) → inSlots (λ q. eqb q p) i′ g j ≡ true → p + length (spanBytes name kind content) ≤ j → getD i′ j 0 ≡ 255
   -- What remove takes away again leaves both listings as they were.
   pub undone : (removed i′ name .answer ≡ Done p) × ((w : Bool) → entries w (removed i′ name .image) g ≡ entries w i g)
 
@@ -63,7 +58,8 @@ pub record ReplaceDone (i : List ℕ) (g : Region) (name content : List ℕ) (p 
   pub kind : ℕ
   -- It stood there before, with that type.
   pub was : (t : Taken) × (findOf true i name ≡ At t) × (t .place ≡ p) × (t .header .kind ≡ kind)
-  pub there : FoundThere i′ p name kind content
+  -- "The new content is found under its name": by both lookups, at the place p, with the type and the lengths.
+  pub there : (w : Bool) → Gives w i′ (entryAt p name kind content)
   -- Both listings are the old ones with the one component changed.
   pub listed : (w : Bool) → entries w i′ g ≡ instead (entryAt p name kind content) (entries w i g)
   -- "After the written span, every byte to the next component's start or the region's end is 0xFF" (document 01).
@@ -75,7 +71,7 @@ pub record RemoveDone (i : List ℕ) (g : Region) (name : List ℕ) (p : ℕ) (i
   -- It stood there before.
   pub was : (t : Taken) × (findOf true i name ≡ At t) × (t .place ≡ p)
   -- "Or a removed name nowhere": by neither lookup.
-  pub gone : (w : Bool) → (findOf w i′ name ≡ Refused (refusedBy 10)) × (contentFoundBy w i′ name ≡ [])
+  pub gone : (w : Bool) → Refuses w i′ name 10
   -- Both listings are the old ones with the one component left out.
   pub listed : (w : Bool) → entries w i′ g ≡ without p (entries w i g)
   -- "Remove sets the whole slot to 0xFF" (document 01).

@@ -2,11 +2,13 @@
 use Prim.Native.Nat.{ℕ, _+_, _-_, _≤_, _<_}
 use mathlib.Core.Path.{_≡_}
 use mathlib.Core.List.{List, [], map, List·Memᴰ}
-use mathlib.Core.Bool.{Bool, true, false, cond, not, _&&_}
+use mathlib.Core.Bool.{Bool, true, false, not, _&&_}
 use lib.ListN.{length, getD}
 use lib.Dec.{leb, ltb}
 use Rattle.number.specs.Lists.{any, keep}
-use Rattle.walk.specs.Walk.{Entry, end, guardedListing}
+use Rattle.component.specs.Component.{headerOf}
+use Rattle.walk.specs.Walk.{Entry, end, pickOf, listing, guardedListing}
+use Rattle.walk.specs.declared.Taken.{Taken}
 use Rattle.lookup.specs.Lookup.{bears}
 use Rattle.master.specs.Master.{master}
 use Rattle.master.specs.declared.Master.the-variants.{Read}
@@ -15,9 +17,9 @@ use Rattle.strict.specs.Slots.{hit}
 use Rattle.terms.specs.Terms.{bytesOf, refusedBy}
 use Rattle.terms.specs.declared.Region.{Region}
 use Rattle.region.specs.Region.{takenAt, Walked}
-use Rattle.region.specs.declared.Found.the-variants.{Refused}
+use Rattle.region.specs.declared.Found.the-variants.{At, Refused}
 use Rattle.reading.specs.Reading.{guardedStep}
-use Rattle.finding.specs.Finding.{guardedFind, guardedContent}
+use Rattle.finding.specs.Finding.{findOf, guardedFind, contentFoundBy, nameAt, contentAt}
 
 -- "Take any image that the strict check accepts": its region, and that the check accepts it.
 pub record AcceptedImage (i : List ℕ) (g : Region) : Type 0 where
@@ -28,9 +30,32 @@ pub record AcceptedImage (i : List ℕ) (g : Region) : Type 0 where
 abbrev pub placed : Region → Entry → Entry
 placed g t = record { place = g .start + t .place; component = t .component }
 
--- The guarded listing of the image: each entry holds place, type, name and content.
+-- The listing of the region's bytes by a walk, the guarded one where w is true.
+abbrev pub regionListing : Bool → List ℕ → Region → List Entry
+regionListing w i g = listing (pickOf w (bytesOf i g) (g .align)) (bytesOf i g) (g .align)
+
+-- The listing of the image: each entry holds place, from the image's start, type, name and content.
+abbrev pub entries : Bool → List ℕ → Region → List Entry
+entries w i g = map (placed g) (regionListing w i g)
+
 abbrev pub guardedEntries : List ℕ → Region → List Entry
-guardedEntries i g = map (placed g) (guardedListing (bytesOf i g) (g .align))
+guardedEntries i g = entries true i g
+
+-- The lookup of a component's name gives that component: its place, its type and lengths, and its content.
+pub record Gives (w : Bool) (i : List ℕ) (t : Entry) : Type 0 where
+  pub taken : Taken
+  pub found : findOf w i (t .component .name) ≡ At taken
+  pub place : taken .place ≡ t .place
+  pub header : taken .header ≡ headerOf (t .component)
+  pub content : contentFoundBy w i (t .component .name) ≡ t .component .content
+
+-- The lookup refuses: no component, and an empty part.
+abbrev pub Refuses : Bool → List ℕ → List ℕ → ℕ → Type 0
+Refuses w i name n = (findOf w i name ≡ Refused (refusedBy n)) × (contentFoundBy w i name ≡ [])
+
+-- A step tells numbers alone: name_at and content_at give the name and the content of the component at its place.
+abbrev pub PartsAt : List ℕ → Entry → Type 0
+PartsAt i t = (nameAt i (t .place) ≡ t .component .name) × (contentAt i (t .place) ≡ t .component .content)
 
 -- The byte j of the image lies in a slot of the set. A slot is told by its component's place.
 abbrev pub inSlots : (ℕ → Bool) → List ℕ → Region → ℕ → Bool
@@ -50,8 +75,11 @@ abbrev pub rivalled : (ℕ → Bool) → List ℕ → Region → List ℕ → Li
 rivalled set i g i′ name = any (bears name) (keep (fromSlots set i g) (guardedEntries i′ g))
 
 pub record Demand3 (set : ℕ → Bool) (i : List ℕ) (g : Region) (i′ : List ℕ) : Type 0 where
+  -- The region of the spoiled image is that of the accepted one: "no slot holds a byte of the master header or of P" (document 01).
+  pub read : master i′ ≡ Read g
   -- All guarded steps on the spoiled image count, from offset to none left; "none of them is refused" (document 01).
   pub steps : Walked (guardedStep i′) (g .start) (map (takenAt i′ g) (guardedListing (bytesOf i′ g) (g .align)))
+  pub parts : (t : Entry) → List·Memᴰ t (guardedEntries i′ g) → PartsAt i′ t
   -- "The guarded listing of the spoiled image still gives the component of every untouched slot."
   pub listed : (t : Entry) → List·Memᴰ t (guardedEntries i g) → fromSlots set i g t ≡ false → List·Memᴰ t (guardedEntries i′ g)
   -- "Leave out what it lists from spoiled slots: the rest equals the accepted image's guarded listing with the spoiled slots' components
@@ -61,9 +89,8 @@ pub record Demand3 (set : ℕ → Bool) (i : List ℕ) (g : Region) (i′ : List
   pub inside : (t : Entry) → List·Memᴰ t (guardedEntries i′ g) → fromSlots set i g t ≡ true → (j : ℕ) → t .place ≤ j → j < end t → inSlots set i g j ≡ true
   -- "The guarded lookup of an untouched component's name gives that component, place and content as before, exactly when nothing listed
   -- from a spoiled slot bears the name too. Otherwise it refuses with 11. It never gives another."
-  pub lookup : (t : Entry) → List·Memᴰ t (guardedEntries i g) → fromSlots set i g t ≡ false
-      → guardedFind i′ (t .component .name) ≡ cond (rivalled set i g i′ (t .component .name)) (Refused (refusedBy 11)) (guardedFind i (t .component .name))
-  pub content : (t : Entry) → List·Memᴰ t (guardedEntries i g) → fromSlots set i g t ≡ false
-      → guardedContent i′ (t .component .name) ≡ cond (rivalled set i g i′ (t .component .name)) [] (t .component .content)
-  -- Before the spoiling the lookup of a component's name gives that component, with its content.
-  pub before : (t : Entry) → List·Memᴰ t (guardedEntries i g) → guardedContent i (t .component .name) ≡ t .component .content
+  pub before : (t : Entry) → List·Memᴰ t (guardedEntries i g) → Gives true i t
+  pub lookup : (t : Entry) → List·Memᴰ t (guardedEntries i g) → fromSlots set i g t ≡ false → rivalled set i g i′ (t .component .name) ≡ false
+      → Gives true i′ t × (guardedFind i′ (t .component .name) ≡ guardedFind i (t .component .name))
+  pub refused : (t : Entry) → List·Memᴰ t (guardedEntries i g) → fromSlots set i g t ≡ false → rivalled set i g i′ (t .component .name) ≡ true
+      → Refuses true i′ (t .component .name) 11

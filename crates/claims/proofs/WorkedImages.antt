@@ -1,0 +1,109 @@
+-- Worked values: a small whole image whose region does not begin at byte 0, and what its calls answer. Places are told from the image's start.
+use Prim.Native.Nat.{ℕ}
+use mathlib.Core.Path.{_≡_, refl}
+use mathlib.Core.Bool.{Bool, true, false}
+use mathlib.Core.List.{List, [], _∷_, _++_}
+use lib.ListN.{replicate}
+use lib.Count.{ones, onesIn}
+use Rattle.number.specs.Number.{be, le, beBytes, leBytes}
+use Rattle.number.specs.Bytes.{partOf, eqBytes, splice}
+use Rattle.number.specs.Tests.{all}
+use Rattle.number.specs.Lists.{any, keep, padded, noTwo}
+use Rattle.component.specs.Names.{nameTests, nameFits, beforeZero, fieldTests, fieldFits}
+use Rattle.component.specs.Component.{magic, startsWithMagic, componentOf, headerTests, wellFormed, fields, judge}
+use Rattle.walk.specs.Walk.{placesBelow, places, carries, buried, plain, unless, guarded, orElse, first, step, onward, follow, steps, listingFrom}
+use Rattle.lookup.specs.Lookup.{bears, foremost, only}
+use Rattle.terms.specs.Refusals.{lengthFits}
+use Rattle.terms.specs.Terms.{bytesOf, refusedBy}
+use Rattle.master.specs.Master.{headerAt, addressFits, bootblockFits, alignFits, offsetFits, tests, refusal, master}
+use Rattle.strict.specs.Strict.{takes, stray, strays, decide, verdict}
+use Rattle.strict.specs.Slots.{start}
+use Rattle.checker.specs.Directory.{noPlaces}
+use Rattle.checker.specs.Directory.{refusal as refusedDirectory}
+use Rattle.edit.specs.Edit.{fieldSize, headerBytes, fieldBytes, spanBytes, buries, runs, lowest, slotOf, filled, adding, renewing, clearing, carriedOut, add, replace, remove}
+use Rattle.editor.specs.declared.Edited.{Edited}
+use Rattle.editor.specs.declared.Edited.the-variants.{Done}
+use Rattle.editor.specs.declared.Edited.the-variants.{Refused as EditRefused}
+use Rattle.region.specs.Region.{stepFits, stepBy, fromPlace}
+use Rattle.region.specs.declared.Step.the-variants.{NoneLeft}
+use Rattle.region.specs.declared.Step.the-variants.{Refused as StepRefused}
+use Rattle.region.specs.declared.Found.the-variants.{Refused as FoundRefused}
+use Rattle.reading.specs.Reading.{stepOf, strictCheck}
+use Rattle.finding.specs.Finding.{findOf, contentFoundBy, nameAt, contentAt}
+use Rattle.editing.specs.Editing.{added, replaced, removed}
+
+-- What is computed below.
+unfoldable opened : ℕ
+unfolding ones onesIn be le beBytes leBytes partOf eqBytes splice all any keep padded noTwo nameTests nameFits beforeZero fieldTests fieldFits magic startsWithMagic componentOf headerTests wellFormed fields judge placesBelow places carries buried plain unless guarded orElse first step onward follow steps listingFrom bears foremost only lengthFits bytesOf headerAt addressFits bootblockFits alignFits offsetFits tests refusal master takes stray strays decide verdict start fieldSize headerBytes fieldBytes spanBytes buries runs lowest slotOf filled adding renewing clearing carriedOut add replace remove stepFits stepBy fromPlace noPlaces
+opened = 0
+
+-- A component of type 0x50 with the offset 40, whose name is the letter c, and one byte of content; 64 bytes with what follows it.
+abbrev component : ℕ → List ℕ
+component c =
+    0x4C ∷ 0x41 ∷ 0x52 ∷ 0x43 ∷ 0x48 ∷ 0x49 ∷ 0x56 ∷ 0x45 ∷ 0 ∷ 0 ∷ 0 ∷ 1 ∷ 0 ∷ 0 ∷ 0 ∷ 0x50 ∷ 0 ∷ 0 ∷ 0 ∷ 0 ∷ 0 ∷ 0 ∷ 0 ∷ 40
+    ∷ c ∷ (replicate 15 0 ++ (7 ∷ replicate 23 0xFF))
+
+-- An image of 228 bytes: 64 bytes before the region, two slots of 64 bytes, the master header and P. The second slot's bytes and offset are given.
+abbrev image : List ℕ → ℕ → List ℕ
+image slot offset =
+    replicate 64 0xFF
+    ++ (component 0x61
+    ++ (slot
+    ++ (beBytes 4 0x4F524243 ++ (beBytes 4 0x31313131 ++ (beBytes 4 228 ++ (beBytes 4 36 ++ (beBytes 4 64 ++ (beBytes 4 offset
+    ++ (replicate 8 0xFF ++ leBytes 4 0xFFFFFFDC)))))))))
+
+-- The second slot has a component b; a magic with no well-formed header; a component a.
+
+abbrev fine : List ℕ
+fine = image (component 0x62) 64
+
+abbrev untaken : List ℕ
+untaken = image (0x4C ∷ 0x41 ∷ 0x52 ∷ 0x43 ∷ 0x48 ∷ 0x49 ∷ 0x56 ∷ 0x45 ∷ replicate 56 0xFF) 64
+
+abbrev alike : List ℕ
+alike = image (component 0x61) 64
+
+-- Refused by 8; and with a magic at a place of a region from 65 on, which 12 would be given for.
+
+abbrev unaligned : List ℕ
+unaligned = image (component 0x62) 65
+
+abbrev unalignedUntaken : List ℕ
+unalignedUntaken = image (0xFF ∷ 0x4C ∷ 0x41 ∷ 0x52 ∷ 0x43 ∷ 0x48 ∷ 0x49 ∷ 0x56 ∷ 0x45 ∷ replicate 55 0xFF) 65
+
+-- 12 comes with the place 128, from the image's start; so do the edits. 8 comes before 12, 9 and 10; 11 comes with place 0.
+checked : (strictCheck untaken ≡ refusedDirectory 12 128) × (strictCheck alike ≡ refusedDirectory 11 0) × (strictCheck unalignedUntaken ≡ refusedDirectory 8 0)
+    × (strays (bytesOf unalignedUntaken (record { start = 65; end = 192; align = 64 })) 64 ≡ 64 ∷ [])
+    × (strictCheck fine ≡ record { number = 0; place = 0; count = 2; places = padded 256 0 (64 ∷ 128 ∷ []) })
+unfolding opened
+checked = (refl, refl, refl, refl, refl)
+
+abbrev twelve : Edited
+twelve = EditRefused (record { number = 12; place = 128 })
+
+edited : (added untaken [] 0x50 [] .answer ≡ twelve) × (replaced untaken [] [] .answer ≡ twelve) × (removed untaken [] .answer ≡ twelve)
+    × (added alike [] 0x50 [] .answer ≡ EditRefused (refusedBy 11)) × (added unaligned [] 0x50 [] .answer ≡ EditRefused (refusedBy 8))
+    × (replaced alike [] [] .answer ≡ EditRefused (refusedBy 11)) × (removed alike [] .answer ≡ EditRefused (refusedBy 11))
+    × (added fine [] 0x50 [] .answer ≡ EditRefused (refusedBy 14)) × (removed fine (0x62 ∷ []) .answer ≡ Done 128)
+unfolding opened
+edited = (refl, refl, refl, refl, refl, refl, refl, refl, refl)
+
+stepped : (w : Bool) → (stepOf w unaligned 1 ≡ StepRefused (refusedBy 8)) × (stepOf w fine 0 ≡ StepRefused (refusedBy 9)) × (stepOf w fine 192 ≡ NoneLeft)
+unfolding opened
+stepped true = (refl, refl, refl)
+stepped false = (refl, refl, refl)
+
+found : (w : Bool)
+    → (findOf w unaligned [] ≡ FoundRefused (refusedBy 8)) × (findOf w fine [] ≡ FoundRefused (refusedBy 10)) × (contentFoundBy w fine (0x62 ∷ []) ≡ 7 ∷ [])
+unfolding opened
+found true = (refl, refl, refl)
+found false = (refl, refl, refl)
+
+twice : (findOf true alike (0x61 ∷ []) ≡ FoundRefused (refusedBy 11)) × (contentFoundBy true alike (0x61 ∷ []) ≡ [])
+    × (contentFoundBy false alike (0x61 ∷ []) ≡ 7 ∷ [])
+unfolding opened
+twice = (refl, refl, refl)
+
+parts : (nameAt fine 128 ≡ 0x62 ∷ []) × (contentAt fine 128 ≡ 7 ∷ []) × (nameAt fine 192 ≡ []) × (nameAt fine 0 ≡ []) × (contentAt unaligned 128 ≡ [])
+unfolding opened
+parts = (refl, refl, refl, refl, refl)
