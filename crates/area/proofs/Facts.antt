@@ -38,7 +38,7 @@ turned a b (inl (inr h)) = inl (inl h)
 turned a b (inr (inl h)) = inr (inr h)
 turned a b (inr (inr h)) = inr (inl h)
 
-apart : (a b : Area) → disjoint a b ≡ true → Apart a b
+pub apart : (a b : Area) → disjoint a b ≡ true → Apart a b
 unfolding disjoint
 apart a b e = go (leb (endOf a) (b .offset)) refl e
   where
@@ -46,7 +46,7 @@ apart a b e = go (leb (endOf a) (b .offset)) refl e
     go true q f = inl (leb-true _ _ q)
     go false q f = inr (leb-true _ _ f)
 
-within : (a b : Area) → holds a b ≡ true → Holds a b
+pub within : (a b : Area) → holds a b ≡ true → Holds a b
 unfolding holds
 within a b e = (leb-true (a .offset) (b .offset) (p 0), leb-true (endOf b) (endOf a) (p 1))
   where

@@ -26,7 +26,7 @@ unfolding nameTests
 name-long f n e h = bad f 1 (lt-leb (length (printed f)) 31 (omega arith))
 
 -- Within the bytes, what stands past their end does not matter.
-within : (f : List ℕ) (n : ℕ) → n < length f → getD f n 1 ≡ getD f n 0
+pub within : (f : List ℕ) (n : ℕ) → n < length f → getD f n 1 ≡ getD f n 0
 within [] n h = absurd (omega arith)
 within (b ∷ f) zero h = refl
 within (b ∷ f) (suc n) h = within f n (omega arith)

@@ -7,8 +7,9 @@ use lib.ListN.{replicate}
 use Rattle.number.specs.Number.{le}
 use Rattle.number.specs.Bytes.{eqBytes}
 use Rattle.number.specs.Letters.{printed}
+use Rattle.terms.specs.Refusals.{firstFailed}
 use Rattle.area.specs.Names.{nameTests, nameFits, nameOf}
-use Rattle.area.specs.Area.{areaAt, unused, areaIn, bears, extentFits, disjoint, holds, cross, ownName, ownTests, holdsMap}
+use Rattle.area.specs.Area.{areaAt, unused, areaIn, bears, sameName, extentFits, disjoint, holds, cross, ownName, ownTests, holdsMap, areaTests}
 use Rattle.area.specs.declared.Area.{Area}
 
 -- The name A, n times.
@@ -46,25 +47,46 @@ short = refl
 abbrev area : ℕ → ℕ → Area
 area o z = record { offset = o; size = z; flags = 0; name = 0 }
 
--- Up to byte 16, one byte past it, and no byte.
-extents : map (extentFits 16) (area 8 8 ∷ area 8 9 ∷ area 8 0 ∷ []) ≡ true ∷ false ∷ false ∷ []
+-- Up to byte 16, one byte past it, and no byte; a sum that passes 2^32.
+extents : map (extentFits 16) (area 8 8 ∷ area 8 9 ∷ area 8 0 ∷ area 0 16 ∷ area 15 1 ∷ area 16 1 ∷ area 0xFFFFFFF8 0x10 ∷ [])
+    ≡ true ∷ false ∷ false ∷ true ∷ true ∷ false ∷ false ∷ []
 unfolding extentFits
 extents = refl
+
+-- By 33 then 35: a fit name and a fit area; either unfit; both.
+refusals : map (λ ((n, a) : List ℕ × Area). firstFailed (areaTests (field n) 16 a))
+    ((a's 1, area 8 8) ∷ ([], area 8 8) ∷ (a's 1, area 8 9) ∷ ([], area 8 9) ∷ ([], area 8 0) ∷ [])
+    ≡ 0 ∷ 33 ∷ 35 ∷ 33 ∷ 33 ∷ []
+unfolding printed nameTests nameFits extentFits areaTests
+refusals = refl
 
 -- Bytes 8 to 16 beside those that touch them, equal and nested ones, and one byte in common at either end.
 crossings : map (cross (area 8 8)) (area 0 8 ∷ area 16 8 ∷ area 8 8 ∷ area 9 7 ∷ area 0 32 ∷ area 0 9 ∷ area 15 2 ∷ []) ≡ false ∷ false ∷ false ∷ false ∷ false ∷ true ∷ true ∷ []
 unfolding disjoint holds cross
 crossings = refl
 
--- FMAP holds bytes 8 to 16, begins after byte 8, ends before byte 16; is another name's beginning.
+-- Names at byte 0 and at byte 5: what follows the zero is not read; a name's beginning; another letter.
+same-names : map (λ (s : List ℕ). sameName s (area 0 1) (record { offset = 0; size = 1; flags = 0; name = 5 }))
+    ((0x41 ∷ 0x42 ∷ 0 ∷ 1 ∷ 2 ∷ 0x41 ∷ 0x42 ∷ 0 ∷ 3 ∷ [])
+    ∷ (0x41 ∷ 0x42 ∷ 0 ∷ 1 ∷ 2 ∷ 0x41 ∷ 0x42 ∷ 0x41 ∷ 0 ∷ [])
+    ∷ (0x41 ∷ 0x42 ∷ 0 ∷ 1 ∷ 2 ∷ 0x41 ∷ 0 ∷ 0 ∷ 3 ∷ [])
+    ∷ (0x41 ∷ 0x42 ∷ 0 ∷ 1 ∷ 2 ∷ 0x41 ∷ 0x62 ∷ 0 ∷ 3 ∷ [])
+    ∷ [])
+    ≡ true ∷ false ∷ false ∷ false ∷ []
+unfolding eqBytes printed nameTests nameFits nameOf bears
+same-names = refl
+
+-- FMAP holds bytes 8 to 16, begins after byte 8, ends before byte 16; is another name's beginning, is FMAQ, fmap or FMA.
 
 abbrev named : List ℕ → List Area → List Bool
 named n = map (holdsMap (field n) 8 16)
 
-own-area : named ownName (area 8 8 ∷ area 0 32 ∷ area 9 7 ∷ area 8 7 ∷ []) ≡ true ∷ true ∷ false ∷ false ∷ []
+own-area : named (0x46 ∷ 0x4D ∷ 0x41 ∷ 0x50 ∷ []) (area 8 8 ∷ area 0 32 ∷ area 9 7 ∷ area 8 7 ∷ []) ≡ true ∷ true ∷ false ∷ false ∷ []
 unfolding eqBytes printed nameTests nameFits nameOf bears ownName ownTests holdsMap
 own-area = refl
 
-longer-name : named (ownName ++ a's 1) (area 8 8 ∷ []) ≡ false ∷ []
+other-names : map (λ (n : List ℕ). named n (area 8 8 ∷ []))
+    ((0x46 ∷ 0x4D ∷ 0x41 ∷ 0x50 ∷ 0x41 ∷ []) ∷ (0x46 ∷ 0x4D ∷ 0x41 ∷ 0x51 ∷ []) ∷ (0x66 ∷ 0x6D ∷ 0x61 ∷ 0x70 ∷ []) ∷ (0x46 ∷ 0x4D ∷ 0x41 ∷ []) ∷ [])
+    ≡ (false ∷ []) ∷ (false ∷ []) ∷ (false ∷ []) ∷ (false ∷ []) ∷ []
 unfolding eqBytes printed nameTests nameFits nameOf bears ownName ownTests holdsMap
-longer-name = refl
+other-names = refl

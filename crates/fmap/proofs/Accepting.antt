@@ -46,7 +46,7 @@ pub record Accepted (i : List ℕ) : Type 0 where
   pub whole : firstFailed (wholeTests i (placeOf i) (areasOf i (placeOf i))) ≡ 0
   pub answer : fmap i ≡ mapOf i (placeOf i)
 
-singleton : (ps : List ℕ) → 1 ≤ length ps → length ps ≤ 1 → ps ≡ firstOr 0 ps ∷ []
+pub singleton : (ps : List ℕ) → 1 ≤ length ps → length ps ≤ 1 → ps ≡ firstOr 0 ps ∷ []
 singleton [] h k = absurd (omega arith)
 singleton (p ∷ []) h k = refl
 singleton (p ∷ q ∷ ps) h k = absurd (omega arith)
@@ -76,7 +76,7 @@ accepted i h = record {
     parts : (firstFailed (headerTests i (placeOf i) (length i)) ≡ 0) × (firstFailed (turnTests i (length i) (areasOf i (placeOf i))) ≡ 0) × (firstFailed (wholeTests i (placeOf i) (areasOf i (placeOf i))) ≡ 0)
     parts = not-refused i (placeOf i) (length i) (both .1)
 
-each-area : (s : List ℕ) (l : ℕ) (xs : List Area) → firstFailed (turnTests s l xs) ≡ 0 → (k : ℕ) → k < length xs
+pub each-area : (s : List ℕ) (l : ℕ) (xs : List Area) → firstFailed (turnTests s l xs) ≡ 0 → (k : ℕ) → k < length xs
     → (nameFits (drop ((getD xs k unused) .name) s) ≡ true) × (extentFits l (getD xs k unused) ≡ true)
 unfolding turnTests areaTests
 each-area s l [] e k h = absurd (omega arith)

@@ -2,4 +2,5 @@ pub mod Counting
 pub mod Reading
 pub mod Accepting
 pub mod Theorems
+pub mod Exactly
 pub mod Worked

@@ -35,7 +35,7 @@ header-numbered : (s : List ℕ) (at l : ℕ) → numbered (headerTests s at l) 
 unfolding headerTests
 header-numbered s at l = refl
 
-turn-numbered : (s : List ℕ) (l : ℕ) (xs : List Area) → numbered (turnTests s l xs) ≡ true
+pub turn-numbered : (s : List ℕ) (l : ℕ) (xs : List Area) → numbered (turnTests s l xs) ≡ true
 unfolding turnTests areaTests
 turn-numbered s l [] = refl
 turn-numbered s l (a ∷ xs) = turn-numbered s l xs

@@ -1,1 +1,2 @@
 pub mod Fmap
+pub mod Table

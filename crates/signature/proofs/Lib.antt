@@ -1,1 +1,3 @@
 pub mod Signing
+pub mod Exactly
+pub mod Worked
