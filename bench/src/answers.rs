@@ -1,7 +1,12 @@
 // Compares the answers of both sides, at sizes that the probe cannot hold and on damaged images.
-use crate::images::{blank, put, Random, BOOTBLOCK};
+use crate::boundaries;
+use crate::images::{self, blank, put, Random, BOOTBLOCK};
 use crate::timing::{CALLS, SIDES};
+use crate::SIZES;
 use std::sync::atomic::{AtomicUsize, Ordering};
+
+// Fewest comparisons of a run without times.
+const FLOOR: usize = 201_000;
 
 static COMPARED: AtomicUsize = AtomicUsize::new(0);
 
@@ -96,6 +101,22 @@ fn damaged(number: usize) -> usize {
     differing
 }
 
+// All but the images that are timed. The answers on images at the boundaries are known beforehand.
 pub fn special() -> usize {
-    large() + damaged(40_000)
+    boundaries::unmet() + large() + damaged(40_000)
+}
+
+// The comparison by itself, the images that are timed included. Says whether it is good.
+pub fn alone() -> bool {
+    let mut differing = special();
+    for case in SIZES.into_iter().flat_map(images::cases) {
+        differing += compare(case.label, &case.image, &case.name);
+    }
+    let held = boundaries::held();
+    println!("answers: {} compared, and {held} of them with numbers written out; {differing} differ", compared());
+    let few = compared() < FLOOR || held < boundaries::FLOOR;
+    if few {
+        println!("answers: FAILED, fewer than {FLOOR} compared, or fewer than {} as written out", boundaries::FLOOR);
+    }
+    differing == 0 && !few
 }

@@ -22,17 +22,21 @@ impl Random {
 
 pub const BOOTBLOCK: usize = 1024;
 
-// An image whose region goes from `start` up to the last `bootblock` bytes, filled with `fill`, with a master header that is read.
-pub fn blank(length: usize, bootblock: usize, align: usize, start: usize, fill: u8) -> Vec<u8> {
+// An image filled with `fill`, with a master header `back` bytes before its end. Its region goes from `start` up to the last `bootblock` bytes.
+pub fn framed(length: usize, back: usize, bootblock: usize, align: usize, start: usize, fill: u8) -> Vec<u8> {
     let mut image = vec![0; length];
     image.fill(fill);
-    let header = length - 36;
     let numbers = [0x4F52_4243, 0x3131_3131, length, bootblock, align, start, 0, 0];
     for (k, number) in numbers.into_iter().enumerate() {
-        image[header + 4 * k..][..4].copy_from_slice(&(number as u32).to_be_bytes());
+        image[length - back + 4 * k..][..4].copy_from_slice(&(number as u32).to_be_bytes());
     }
-    image[length - 4..].copy_from_slice(&0xFFFF_FFDCu32.to_le_bytes());
+    image[length - 4..].copy_from_slice(&(back as u32).wrapping_neg().to_le_bytes());
     image
+}
+
+// The same with the header at the end: P is 0xFFFFFFDC.
+pub fn blank(length: usize, bootblock: usize, align: usize, start: usize, fill: u8) -> Vec<u8> {
+    framed(length, 36, bootblock, align, start, fill)
 }
 
 // A component at a place: its header and its name field. The content stays as it is.

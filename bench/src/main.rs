@@ -1,6 +1,7 @@
 // Times the proved calls against the same algorithms in plain Rust, in one run, and compares the answers of both.
-// It fails if an answer differs; the goals for the times are reported as met or missed.
+// It fails if an answer differs; the goals for the times are reported as met or missed. With `answers` it only compares.
 mod answers;
+mod boundaries;
 mod images;
 mod ours;
 mod plain;
@@ -30,7 +31,11 @@ struct Times {
 const UNTIMED: Times = Times { same: [[f64::INFINITY; 2]; SIZES.len()], turn: [[f64::INFINITY; 2]; ENDS.len()] };
 
 fn main() -> ExitCode {
-    let quick = std::env::args().nth(1).is_some_and(|word| word == "quick");
+    let word = std::env::args().nth(1).unwrap_or_default();
+    if word == "answers" {
+        return ExitCode::from(u8::from(!answers::alone()));
+    }
+    let quick = word == "quick";
     let runs = if quick { 10 } else { 200 };
     let mut differing = answers::special();
     let labels: Vec<&str> = images::cases(1).iter().map(|case| case.label).collect();

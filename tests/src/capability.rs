@@ -38,8 +38,6 @@ pub struct Capability {
     pub operations: &'static str,
     /// The reference's answer to a case of these operations.
     pub answer: fn(&Case) -> String,
-    /// The outcomes that some case must reach.
-    pub outcomes: fn() -> Vec<(u8, String)>,
     /// Pairs of refusals that some case must meet together.
     pub pairs: fn() -> Vec<(u8, u32, u32)>,
     /// Bench cases of document 01.
@@ -50,18 +48,4 @@ pub struct Capability {
     pub generated: fn(u64, usize) -> Vec<Batch>,
     /// Its share of the number of cases asked for, in percent.
     pub share: usize,
-}
-
-/// Each operation with each of these outcomes.
-pub fn reached(operations: &str, kinds: &[&str], refusals: &[u32]) -> Vec<(u8, String)> {
-    let mut list = Vec::new();
-    for op in operations.bytes() {
-        for kind in kinds {
-            list.push((op, kind.to_string()));
-        }
-        for number in refusals {
-            list.push((op, format!("refused {number}")));
-        }
-    }
-    list
 }

@@ -539,6 +539,29 @@ fn steps(rng: &mut Rng, scenes: &mut Vec<Scene>) {
     }
 }
 
+/// A component with the longest name and no content: its span of 280 bytes ends at the region's end, one byte past it or one before it.
+/// It stands at the region's start, or after another component; the region begins at 0 or above. A stage, a payload or another type.
+pub fn longest() -> Vec<Scene> {
+    let mut scenes = Vec::new();
+    let mut kinds = [0x10, 0x20, 0xFFFF_FFFF].into_iter().cycle();
+    for align in [16, 64, 256, 4096] {
+        for (offset, others) in [(0, 0), (0, 1), (3 * align, 0), (3 * align, 1)] {
+            let raw = Raw::new(&long_name(255), kinds.next().expect("a cycle"), &[]);
+            for size in [279, 280, 281] {
+                let place = offset + others * 48usize.div_ceil(align) * align;
+                let end = place + size;
+                let mut image = vec![0xFF; end + 64];
+                put(&mut image, offset as i64, &Raw::new(b"near", 7, b"12345678").bytes());
+                put(&mut image, place as i64, &raw.bytes());
+                Frame::new(end + 64, 40, 64, align, offset).stamp(&mut image);
+                let numbers = [offset as u64, place as u64, (place + align) as u64, end as u64];
+                scenes.push(Scene::new(image, &numbers, &[&long_name(255), &long_name(254), b"near"], "longest name"));
+            }
+        }
+    }
+    scenes
+}
+
 /// Numbers at and beside the edges of a region.
 pub fn numbers(start: u64, end: u64, align: u64) -> Vec<u64> {
     let last = if end > start { (end - 1) / align * align } else { start };

@@ -4,6 +4,7 @@ use std::thread;
 
 use crate::bytes::hex;
 use crate::capability::{Batch, Capability};
+use crate::master;
 use crate::protocol::{lines_of_answer, outcome, Case};
 use crate::run::{run, Words};
 use crate::tally::{clip, Tally};
@@ -38,9 +39,20 @@ fn ask(probe: &Words, capability: &Capability, part: &[Case], tally: &mut Tally)
     (text.split_terminator('\n').map(str::to_string).collect(), expected)
 }
 
+/// How a case came out, for counting. An answer to `u` or `v` tells no refusal: its image is counted by the one that it has.
+fn kinds(case: &Case, expected: &str) -> Vec<String> {
+    let mut kinds = vec![outcome(expected)];
+    if let (b'u' | b'v', Err(number)) = (case.op, master::region(&case.image)) {
+        kinds.push(format!("image refused {number}"));
+    }
+    kinds
+}
+
 /// Compares one answer.
 fn compare_one(capability: &Capability, number: usize, case: &Case, expected: &str, got: &str, tally: &mut Tally) {
-    tally.count(&(case.op as char).to_string(), expected);
+    for kind in kinds(case, expected) {
+        tally.count(&(case.op as char).to_string(), kind);
+    }
     if got == expected {
         tally.agreed += 1;
         return;
@@ -132,7 +144,7 @@ fn check_after(batches: &[Batch], answers: &[String], tally: &mut Tally) {
     }
 }
 
-/// All of a capability: bench cases, cases of two refusals, generated ones; and that all was reached.
+/// All of a capability: bench cases, cases of two refusals, generated ones; and that all pairs of refusals were met.
 pub fn test_capability(capability: &Capability, probe: &Words, seed: u64, count: usize, tally: &mut Tally) {
     if tally.hung {
         return;
@@ -147,9 +159,6 @@ pub fn test_capability(capability: &Capability, probe: &Words, seed: u64, count:
     println!("{}: {} cases", capability.name, all.len());
     let answers = compare(probe, capability, &all, tally);
     check_after(&batches, &answers, tally);
-    for (op, kind) in (capability.outcomes)() {
-        tally.need(&(op as char).to_string(), &kind);
-    }
     for (op, first, second) in (capability.pairs)() {
         tally.need_pair(op, first, second);
     }
@@ -164,7 +173,7 @@ pub fn check_output(words: &Words, input: &[u8], expected: &str, note: &str, cal
         Err(text) => tally.stop(text),
         Ok((bytes, _)) => {
             let got = String::from_utf8_lossy(&bytes).into_owned();
-            tally.count(call, expected);
+            tally.count(call, outcome(expected));
             if got == expected {
                 tally.agreed += 1;
             } else {

@@ -4,7 +4,7 @@ use std::sync::Arc;
 
 use crate::accepted::{accepted, many};
 use crate::bytes::hex;
-use crate::capability::{reached, Batch, Both, Capability, Literal};
+use crate::capability::{Batch, Both, Capability, Literal};
 use crate::cases::{self, long_name, random_content, random_kind, random_name};
 use crate::edit::{self, Refusal};
 use crate::guarded::{raw_region, strict_both, strict_holds};
@@ -17,7 +17,7 @@ use crate::strict;
 use crate::walk::{self, Component, LARCHIVE};
 
 pub fn capability() -> Capability {
-    Capability { name: "edits", operations: "ard", answer, outcomes, pairs, bench, both, generated, share: 50 }
+    Capability { name: "edits", operations: "ard", answer, pairs, bench, both, generated, share: 50 }
 }
 
 /// The edit of a case: its result, and the image afterwards.
@@ -64,15 +64,6 @@ fn demanded(case: &Case) -> Result<(), String> {
     } else {
         Err("an edit broke demand 2".into())
     }
-}
-
-fn outcomes() -> Vec<(u8, String)> {
-    let all = [1, 2, 3, 4, 5, 6, 7, 8, 12, 13, 11];
-    let mut list = reached("ard", &["done"], &all);
-    list.extend(reached("a", &[], &[14, 15, 16, 17]));
-    list.extend(reached("r", &[], &[10, 16, 17]));
-    list.extend(reached("d", &[], &[10]));
-    list
 }
 
 fn pairs() -> Vec<(u8, u32, u32)> {
@@ -335,6 +326,28 @@ fn few_and_many(rng: &mut Rng, cases: &mut Vec<Case>) {
     }
 }
 
+/// The longest name and no content at the region's end: replaced and removed where it stands; added to the run that it leaves,
+/// which holds it exactly, or is one byte too short or too long. One byte of content more is tried too.
+fn longest(cases: &mut Vec<Case>) {
+    for scene in cases::longest() {
+        let (place, end) = (scene.numbers[1] as usize, scene.numbers[3] as usize);
+        let mut image = scene.image.to_vec();
+        image[place..end].fill(0xFF);
+        let left = Arc::new(image);
+        for name in &scene.names[..2] {
+            let mut edit = |op: u8, image: &Arc<Vec<u8>>, content: &[u8]| {
+                cases.push(Case::new(op, image, scene.note).named(name).holding(content).numbered(9));
+            };
+            edit(b'd', &scene.image, b"");
+            for content in [&b""[..], b"x", b"xy"] {
+                edit(b'r', &scene.image, content);
+                edit(b'a', &scene.image, content);
+                edit(b'a', &left, content);
+            }
+        }
+    }
+}
+
 /// Single edits at every boundary.
 fn edges(rng: &mut Rng, cases: &mut Vec<Case>) {
     for (align, length) in [(16, 600), (64, 1200), (256, 2400), (1024, 5000)] {
@@ -420,6 +433,8 @@ fn generated(seed: u64, count: usize) -> Vec<Batch> {
             cases.push(case);
         }
     }
+
+    longest(&mut cases);
 
     // The reference's own edits keep the order's demand 2.
     let mut broken = None;

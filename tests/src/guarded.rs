@@ -5,7 +5,7 @@ use std::sync::Arc;
 use crate::accepted::many;
 use crate::bench::{long_cal_12, twice_cal_13, CAL_13};
 use crate::bytes::big32;
-use crate::capability::{reached, Batch, Both, Capability, Literal};
+use crate::capability::{Batch, Both, Capability, Literal};
 use crate::cases::{self, Scene};
 use crate::image::{image_a, lay, put, Frame, Raw};
 use crate::master::{self, Region};
@@ -16,7 +16,7 @@ use crate::walk::{self, LARCHIVE};
 use crate::{conditions, spoiler, strict};
 
 pub fn capability() -> Capability {
-    Capability { name: "guarded", operations: "gjkc", answer, outcomes, pairs, bench, both, generated, share: 60 }
+    Capability { name: "guarded", operations: "gjkc", answer, pairs, bench, both, generated, share: 60 }
 }
 
 fn answer(case: &Case) -> String {
@@ -37,18 +37,6 @@ fn answer(case: &Case) -> String {
             }
         },
     }
-}
-
-fn outcomes() -> Vec<(u8, String)> {
-    let eight = [1, 2, 3, 4, 5, 6, 7, 8];
-    let mut list = reached("g", &["listing", "empty listing"], &eight);
-    list.extend(reached("j", &["taken", "none"], &eight));
-    list.extend(reached("j", &[], &[9]));
-    list.extend(reached("k", &["found"], &eight));
-    list.extend(reached("k", &[], &[10, 11]));
-    list.extend(reached("c", &["accepted"], &eight));
-    list.extend(reached("c", &[], &[12, 13, 11]));
-    list
 }
 
 fn pairs() -> Vec<(u8, u32, u32)> {
@@ -253,5 +241,8 @@ fn generated(seed: u64, count: usize) -> Vec<Batch> {
     }
     let mut batches = vec![Batch::plain(cases)];
     batches.extend(spoiler::batches(&mut rng, count / 3));
+    let mut cases = Vec::new();
+    cases::longest().iter().for_each(|scene| ask(scene, &mut cases));
+    batches.push(Batch::plain(cases));
     batches
 }

@@ -15,6 +15,7 @@ mod compare;
 mod conditions;
 mod edit;
 mod edits;
+mod finds;
 mod flashmap;
 mod guarded;
 mod image;
@@ -26,6 +27,7 @@ mod plain;
 mod plans;
 mod program;
 mod protocol;
+mod required;
 mod rng;
 mod run;
 mod selftest;
@@ -45,20 +47,30 @@ use tally::Tally;
 /// The capabilities that are tested. Each is a module of its own and one line here.
 #[rustfmt::skip]
 fn capabilities() -> Vec<Capability> {
-    vec![plain::capability(), guarded::capability(), edits::capability(), plans::capability(), maps::capability()]
+    vec![plain::capability(), guarded::capability(), edits::capability(), plans::capability(), maps::capability(), finds::capability()]
 }
 
-/// The least number of cases of a run that does not say how many.
+/// How many random cases a run asks for that does not say how many; each capability takes its share of them.
 const CASES: usize = 20_000;
+
+/// The least number of cases of such a run, random and fixed.
+const FLOOR: usize = 121_000;
 
 /// The status of a run in which an answer of the programs differs from the reference's.
 const DIFFERS: u8 = 1;
 /// The status of a run that fails though no answer differs.
 const AMISS: u8 = 2;
 
-fn compare_all(probe: &Words, list: &Words, seed: u64, count: usize, keep: Option<String>) -> Tally {
+fn compare_all(
+    capabilities: Vec<Capability>,
+    probe: &Words,
+    list: &Words,
+    seed: u64,
+    count: usize,
+    keep: Option<String>,
+) -> Tally {
     let mut tally = Tally::new(keep);
-    for capability in capabilities() {
+    for capability in capabilities {
         compare::test_capability(&capability, probe, seed, count * capability.share / 100, &mut tally);
     }
     badcases::test(probe, &mut tally);
@@ -100,20 +112,26 @@ fn main() -> ExitCode {
         return usage();
     }
 
-    let tally = compare_all(&vec![paths[0].clone().into()], &vec![paths[1].clone().into()], seed, count, keep);
-    verdict(&tally, seed, count)
+    let (probe, list) = (vec![paths[0].clone().into()], vec![paths[1].clone().into()]);
+    let mut tally = compare_all(capabilities(), &probe, &list, seed, count, keep);
+    print!("{}", tally.table());
+    complete(&mut tally, if count < CASES { 0 } else { FLOOR });
+    verdict(&tally, seed)
 }
 
-/// Says how a run came out, in lines and in the status.
-fn verdict(tally: &Tally, seed: u64, count: usize) -> ExitCode {
-    print!("{}", tally.table());
-    if tally.failures.is_empty() && (count < CASES || tally.agreed >= CASES) {
+/// Fails a run that has left out an operation, an outcome or too many cases. A run that asks for fewer cases has no least number.
+fn complete(tally: &mut Tally, floor: usize) {
+    required::check(tally);
+    if tally.difference.is_none() && tally.agreed < floor {
+        tally.fail(format!("{} cases are fewer than {floor}", tally.agreed));
+    }
+}
+
+/// Says how a run came out, in a line and in the status.
+fn verdict(tally: &Tally, seed: u64) -> ExitCode {
+    if tally.failures.is_empty() {
         println!("second program: {} cases agree", tally.agreed);
         return ExitCode::SUCCESS;
-    }
-    if tally.failures.is_empty() {
-        println!("second program: FAILED, {} cases are fewer than {CASES}", tally.agreed);
-        return ExitCode::from(AMISS);
     }
     println!("first difference: {}", tally.difference.as_deref().unwrap_or("none"));
     println!("second program: FAILED, {} failures, {} cases agree, seed {seed}", tally.failures.len(), tally.agreed);

@@ -3,7 +3,7 @@
 use std::sync::Arc;
 
 use crate::bytes::hex;
-use crate::capability::{reached, Batch, Both, Capability};
+use crate::capability::{Batch, Both, Capability};
 use crate::cases::{self, Scene};
 use crate::image::{put, Frame, Raw};
 use crate::master::{self, Region};
@@ -13,7 +13,7 @@ use crate::walk::{self, Component};
 use crate::{bench, conditions};
 
 pub fn capability() -> Capability {
-    Capability { name: "plain", operations: "mpil", answer, outcomes, pairs, bench: bench::plain, both, generated, share: 100 }
+    Capability { name: "plain", operations: "mpil", answer, pairs, bench: bench::plain, both, generated, share: 100 }
 }
 
 fn answer(case: &Case) -> String {
@@ -58,17 +58,6 @@ pub fn found(image: &[u8], result: Result<Component, u32>) -> String {
 
 fn fields(image: &[u8], it: &Component) -> String {
     format!("{}\t{}\t{}\t{}", it.place, it.kind, hex(&it.name), hex(&image[it.content..it.end]))
-}
-
-fn outcomes() -> Vec<(u8, String)> {
-    let eight = [1, 2, 3, 4, 5, 6, 7, 8];
-    let mut list = reached("m", &["region"], &eight);
-    list.extend(reached("p", &["listing", "empty listing"], &eight));
-    list.extend(reached("i", &["taken", "none"], &eight));
-    list.extend(reached("i", &[], &[9]));
-    list.extend(reached("l", &["found"], &eight));
-    list.extend(reached("l", &[], &[10]));
-    list
 }
 
 fn pairs() -> Vec<(u8, u32, u32)> {
@@ -164,5 +153,6 @@ fn generated(seed: u64, count: usize) -> Vec<Batch> {
     while cases.len() < target {
         ask(&cases::random(&mut rng), &mut cases);
     }
+    cases::longest().iter().for_each(|scene| ask(scene, &mut cases));
     vec![Batch::plain(cases)]
 }

@@ -3,7 +3,7 @@
 use std::sync::Arc;
 
 use crate::bytes::{big32, little32};
-use crate::capability::{reached, Batch, Both, Capability, Literal};
+use crate::capability::{Batch, Both, Capability, Literal};
 use crate::cases;
 use crate::image::{put, Frame, Raw};
 use crate::load::{self, BSS, CODE, DATA, ENTRY, PARAMS, PAYLOAD, STAGE};
@@ -13,7 +13,7 @@ use crate::rng::Rng;
 use crate::{conditions, walk};
 
 pub fn capability() -> Capability {
-    Capability { name: "plans", operations: "sy", answer, outcomes, pairs, bench, both, generated, share: 60 }
+    Capability { name: "plans", operations: "sy", answer, pairs, bench, both, generated, share: 60 }
 }
 
 fn answer(case: &Case) -> String {
@@ -36,14 +36,6 @@ fn answer(case: &Case) -> String {
             text
         }
     }
-}
-
-fn outcomes() -> Vec<(u8, String)> {
-    let all = [1, 2, 3, 4, 5, 6, 7, 8, 10, 11, 18, 19, 22, 23, 24, 25];
-    let mut list = reached("s", &["stage"], &all);
-    list.extend(reached("y", &["payload"], &all));
-    list.extend(reached("y", &[], &[20, 21, 26]));
-    list
 }
 
 fn pairs() -> Vec<(u8, u32, u32)> {
@@ -558,6 +550,11 @@ fn generated(seed: u64, count: usize) -> Vec<Batch> {
                 }
                 cases.push(case);
             }
+        }
+    }
+    for scene in cases::longest() {
+        for (op, name) in "sy".bytes().flat_map(|op| scene.names.iter().map(move |name| (op, name))) {
+            cases.push(Case::new(op, &scene.image, scene.note).named(name));
         }
     }
     vec![Batch::plain(cases)]

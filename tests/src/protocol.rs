@@ -91,7 +91,7 @@ pub fn refused(number: u32, place: usize) -> String {
     format!("refused\t{number}\t{place}\t0\n")
 }
 
-/// How an answer came out, for counting: `refused N`, or its first word (a listing: whether it holds anything).
+/// How an answer came out, for counting: `refused N`, or its first word (a listing, a part: whether it holds anything).
 pub fn outcome(answer: &str) -> String {
     let first = answer.lines().next().unwrap_or("");
     let mut words = first.split('\t');
@@ -100,6 +100,7 @@ pub fn outcome(answer: &str) -> String {
         "refused" => format!("refused {}", words.next().unwrap_or("")),
         "end" => "empty listing".to_string(),
         "component" => "listing".to_string(),
+        "part" if words.next() == Some("-") => "empty part".to_string(),
         "" => "no answer".to_string(),
         _ => word.to_string(),
     }

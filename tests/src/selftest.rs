@@ -5,9 +5,10 @@ use std::env;
 use std::io::{self, BufReader, BufWriter, Read, Write};
 use std::process::ExitCode;
 
+use crate::capability::Capability;
 use crate::run::Words;
 use crate::tally::Tally;
-use crate::{compare, listings, protocol};
+use crate::{capabilities, compare, compare_all, complete, listings, protocol, required, FLOOR};
 
 /// What a faulty probe does wrong, each time in one answer only (or at the end).
 const FAULTS: [&str; 7] = ["digit", "line", "extra", "stop", "bad-case", "tail", "rest"];
@@ -22,7 +23,7 @@ pub fn fake_probe(fault: Option<&str>) -> ExitCode {
     let written = loop {
         let answer = match protocol::read_case(&mut input) {
             Ok(None) => break Ok(()),
-            Ok(Some(case)) => crate::capabilities()
+            Ok(Some(case)) => capabilities()
                 .iter()
                 .find(|capability| capability.operations.as_bytes().contains(&case.op))
                 .map(|capability| (capability.answer)(&case)),
@@ -71,6 +72,50 @@ pub fn fake_list() -> ExitCode {
     }
 }
 
+/// A run that is right but for one call, one outcome of a call, or one case too few: does each of them fail?
+fn partial_runs(right: &Tally) -> bool {
+    let mut runs: Vec<(String, Tally)> = Vec::new();
+    runs.extend(required::calls().into_iter().map(|call| (call.to_string(), right.without(call, None))));
+    for (call, kind) in required::outcomes() {
+        runs.push((format!("{call}: {kind}"), right.without(call, Some(&kind))));
+    }
+    let mut few = right.without("", None);
+    few.agreed = FLOOR - 1;
+    runs.push((format!("the last of {FLOOR} cases"), few));
+    let count = runs.len();
+    let mut failed = 0;
+    for (what, mut run) in runs {
+        let before = run.failures.len();
+        complete(&mut run, FLOOR);
+        if run.failures.len() > before {
+            failed += 1;
+        } else {
+            println!("self-test: a run without {what} passes");
+        }
+    }
+    println!("self-test: {failed} of {count} runs with something left out fail");
+    failed == count
+}
+
+/// Runs of the fixed cases, whole for their number and with a capability left out whatever it is: each fails, and no answer differs.
+fn left_out(probe: &Words, list: &Words) -> bool {
+    let mut good = true;
+    let mut run = |what: &str, capabilities: Vec<Capability>, floor: usize| {
+        let mut tally = compare_all(capabilities, probe, list, 1, 0, None).without("", None);
+        let before = tally.failures.len();
+        complete(&mut tally, floor);
+        println!("self-test: without {what}: {} cases agree, {} failures", tally.agreed, tally.failures.len());
+        good = good && before == 0 && !tally.failures.is_empty();
+    };
+    for index in 0..capabilities().len() {
+        let mut some = capabilities();
+        let name = some.remove(index).name;
+        run(&format!("capability {name}"), some, 0);
+    }
+    run("random cases", capabilities(), FLOOR);
+    good
+}
+
 /// Compares with itself: all agrees, and each fault is noticed.
 pub fn run() -> ExitCode {
     let Ok(this) = env::current_exe() else {
@@ -82,13 +127,15 @@ pub fn run() -> ExitCode {
         words
     };
     let list = words(&["fake-list"]);
-    let right = crate::compare_all(&words(&["fake-probe"]), &list, 1, crate::CASES, None);
+    let probe = words(&["fake-probe"]);
+    let mut right = compare_all(capabilities(), &probe, &list, 1, crate::CASES, None);
     print!("{}", right.table());
+    complete(&mut right, FLOOR);
     let mut good = right.failures.is_empty();
     println!("self-test: without a fault {} cases agree, {} failures", right.agreed, right.failures.len());
     for fault in FAULTS {
         let mut tally = Tally::new(None);
-        for capability in crate::capabilities() {
+        for capability in capabilities() {
             compare::test_capability(&capability, &words(&["fake-probe", fault]), 1, 3_000, &mut tally);
         }
         println!("self-test: fault {fault}: {} failures", tally.failures.len());
@@ -97,6 +144,8 @@ pub fn run() -> ExitCode {
     let mut tally = Tally::new(None);
     listings::test(&words(&["bench-image"]), 1, &mut tally);
     good = good && !tally.failures.is_empty();
+    good &= partial_runs(&right);
+    good &= left_out(&probe, &list);
     println!("self-test: {}", if good { "good" } else { "FAILED" });
     if good {
         ExitCode::SUCCESS

@@ -2,12 +2,13 @@
 
 use std::collections::BTreeMap;
 
-use crate::protocol::{outcome, Case};
+use crate::protocol::Case;
 
 /// Failures shown before the run stops showing more.
 const SHOWN: usize = 5;
 
 /// The counts and the failures of a whole run.
+#[derive(Clone)]
 pub struct Tally {
     pub agreed: usize,
     pub failures: Vec<String>,
@@ -18,6 +19,7 @@ pub struct Tally {
     pairs: BTreeMap<(u8, u32, u32), usize>,
     pub hung: bool,
     keep: Option<String>,
+    quiet: bool,
 }
 
 impl Tally {
@@ -30,6 +32,7 @@ impl Tally {
             pairs: BTreeMap::new(),
             keep,
             hung: false,
+            quiet: false,
         }
     }
 
@@ -40,7 +43,7 @@ impl Tally {
     }
 
     pub fn fail(&mut self, text: String) {
-        if self.failures.len() < SHOWN {
+        if self.failures.len() < SHOWN && !self.quiet {
             println!("{text}");
         }
         self.failures.push(text);
@@ -52,14 +55,24 @@ impl Tally {
         self.fail(text);
     }
 
-    pub fn count(&mut self, call: &str, answer: &str) {
-        *self.reached.entry((call.to_string(), outcome(answer))).or_insert(0) += 1;
+    pub fn count(&mut self, call: &str, kind: String) {
+        *self.reached.entry((call.to_string(), kind)).or_insert(0) += 1;
     }
 
-    pub fn need(&mut self, call: &str, kind: &str) {
-        if !self.reached.contains_key(&(call.to_string(), kind.to_string())) {
-            self.fail(format!("not reached: {call}: {kind}"));
-        }
+    pub fn has_reached(&self, call: &str, kind: &str) -> bool {
+        self.reached.contains_key(&(call.to_string(), kind.to_string()))
+    }
+
+    /// Every call with every outcome that came.
+    pub fn reached(&self) -> Vec<(String, String)> {
+        self.reached.keys().cloned().collect()
+    }
+
+    /// The same run, as if it had not reached one outcome of a call, or none of them.
+    pub fn without(&self, call: &str, kind: Option<&str>) -> Tally {
+        let mut other = Tally { quiet: true, ..self.clone() };
+        other.reached.retain(|(its, this), _| its != call || kind.is_some_and(|kind| this != kind));
+        other
     }
 
     pub fn meet(&mut self, op: u8, first: u32, second: u32) {

@@ -52,6 +52,17 @@ pub fn judge(image: &[u8], region: Region, place: usize) -> Option<Component> {
     Some(Component { place, kind, name: field[..zero].to_vec(), content: place + offset, end })
 }
 
+/// The component at a place that a caller names, judged anew: none where the number is no place of the region.
+pub fn component_at(image: &[u8], region: Region, number: u64) -> Option<Component> {
+    if number < region.start as u64 || number >= region.end as u64 {
+        return None;
+    }
+    if number % region.align as u64 != 0 {
+        return None;
+    }
+    judge(image, region, number as usize)
+}
+
 /// The first place at or after a number, or else the region's end.
 pub fn next_place(region: Region, number: usize) -> usize {
     let mut place = number / region.align * region.align;

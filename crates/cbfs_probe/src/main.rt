@@ -115,7 +115,7 @@ fn one_step(page: &mut Page, guarded: bool, image: &[u8], from: usize) -> usize 
     }
 }
 
-// What a lookup found, and the content that it gave.
+// Operations l and k: what a lookup found, and the content that it gave.
 fn found(page: &mut Page, f: Found, content: &[u8]) -> usize {
     match f {
         Found::At(t) => {
@@ -127,20 +127,23 @@ fn found(page: &mut Page, f: Found, content: &[u8]) -> usize {
     }
 }
 
-// Operations l and k: the lookup of a walk.
-fn lookup(page: &mut Page, guarded: bool, image: &[u8], name: &[u8]) -> usize {
-    if guarded {
-        return found(
-            page,
-            cbfs::guarded_find(image, name),
-            cbfs::guarded_lookup(image, name),
-        );
+// Operations e and z: the numbers of what a lookup found.
+fn find(page: &mut Page, f: Found) -> usize {
+    match f {
+        Found::At(t) => {
+            let h = t.header;
+            let ns = [t.place, h.offset, h.len, h.kind as usize, h.named, t.next];
+            output::line(page, 0, output::FOUND, 6, ns)
+        }
+        Found::Refused(r) => refused(page, 0, r, 0),
     }
-    found(
-        page,
-        cbfs::plain_find(image, name),
-        cbfs::plain_lookup(image, name),
-    )
+}
+
+// Operations u and v: a part of the image.
+fn part(page: &mut Page, s: &[u8]) -> usize {
+    let mut at = output::start(page, 0, output::PART, 0, [0; 6]);
+    at = output::bytes(page, at, s);
+    output::byte(page, at, b'\n')
 }
 
 // 0 where every number from `from` on is 0, else 1.
@@ -363,7 +366,20 @@ fn answer(page: &mut Page, op: u8, image: &[u8], name: &[u8], n: usize) -> usize
         b'm' => master_header(page, image),
         b'p' | b'g' => listing(page, op == b'g', image),
         b'i' | b'j' => one_step(page, op == b'j', image, n),
-        b'l' | b'k' => lookup(page, op == b'k', image, name),
+        b'l' => found(
+            page,
+            cbfs::plain_find(image, name),
+            cbfs::plain_lookup(image, name),
+        ),
+        b'k' => found(
+            page,
+            cbfs::guarded_find(image, name),
+            cbfs::guarded_lookup(image, name),
+        ),
+        b'e' => find(page, cbfs::plain_find(image, name)),
+        b'z' => find(page, cbfs::guarded_find(image, name)),
+        b'u' => part(page, cbfs::name_at(image, n)),
+        b'v' => part(page, cbfs::content_at(image, n)),
         b'c' => strict_check(page, image),
         b's' => stage(page, image, name),
         b'y' => payload(page, image, name),

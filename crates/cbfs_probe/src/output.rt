@@ -25,6 +25,8 @@ pub(crate) const NONE: Word = *b"none     ";
 
 pub(crate) const FOUND: Word = *b"found    ";
 
+pub(crate) const PART: Word = *b"part     ";
+
 pub(crate) const ACCEPTED: Word = *b"accepted ";
 
 pub(crate) const MAP: Word = *b"map      ";

@@ -1,0 +1,78 @@
+//! What a whole run must have reached: every operation of the probe's protocol and the listing program, each kind of their answers,
+//! and each refusal that document 01, "Refusal numbers", allows them. No other may come.
+
+use crate::tally::Tally;
+
+/// Calls that answer alike: an operation to a letter, or a program by its name.
+struct Row {
+    calls: &'static [&'static str],
+    kinds: &'static [&'static str],
+    refusals: &'static [&'static [u32]],
+}
+
+const HEADER: &[u32] = &[1, 2, 3, 4, 5, 6, 7, 8];
+const CHECK: &[u32] = &[12, 13, 11];
+
+/// An answer to `u` or `v` tells no refusal, so the images are counted by theirs.
+const PART: &[&str] = &[
+    "part",
+    "empty part",
+    "image refused 1",
+    "image refused 2",
+    "image refused 3",
+    "image refused 4",
+    "image refused 5",
+    "image refused 6",
+    "image refused 7",
+    "image refused 8",
+];
+
+const ROWS: &[Row] = &[
+    Row { calls: &["m"], kinds: &["region"], refusals: &[HEADER] },
+    Row { calls: &["p", "g"], kinds: &["listing", "empty listing"], refusals: &[HEADER] },
+    Row { calls: &["i", "j"], kinds: &["taken", "none"], refusals: &[HEADER, &[9]] },
+    Row { calls: &["l", "e"], kinds: &["found"], refusals: &[HEADER, &[10]] },
+    Row { calls: &["k", "z"], kinds: &["found"], refusals: &[HEADER, &[10, 11]] },
+    Row { calls: &["u", "v"], kinds: PART, refusals: &[] },
+    Row { calls: &["c"], kinds: &["accepted"], refusals: &[HEADER, CHECK] },
+    Row { calls: &["a"], kinds: &["done"], refusals: &[HEADER, CHECK, &[14, 15, 16, 17]] },
+    Row { calls: &["r"], kinds: &["done"], refusals: &[HEADER, CHECK, &[10, 16, 17]] },
+    Row { calls: &["d"], kinds: &["done"], refusals: &[HEADER, CHECK, &[10]] },
+    Row { calls: &["s"], kinds: &["stage"], refusals: &[HEADER, &[10, 11, 18, 19, 22, 23, 24, 25]] },
+    Row { calls: &["y"], kinds: &["payload"], refusals: &[HEADER, &[10, 11, 18, 19, 20, 21, 22, 23, 24, 25, 26]] },
+    Row { calls: &["f"], kinds: &["map"], refusals: &[&[1, 27, 28, 29, 30, 31, 32, 33, 34, 35, 36, 37]] },
+    Row { calls: &["listing program"], kinds: &["place"], refusals: &[HEADER] },
+    Row { calls: &["bad case"], kinds: &["bad case", "region", "no answer"], refusals: &[&[2]] },
+];
+
+/// Every call, with every outcome that it must reach.
+pub fn outcomes() -> Vec<(&'static str, String)> {
+    let mut list = Vec::new();
+    for row in ROWS {
+        for call in row.calls {
+            list.extend(row.kinds.iter().map(|kind| (*call, kind.to_string())));
+            list.extend(row.refusals.iter().flat_map(|part| *part).map(|number| (*call, format!("refused {number}"))));
+        }
+    }
+    list
+}
+
+/// The calls of the table.
+pub fn calls() -> Vec<&'static str> {
+    ROWS.iter().flat_map(|row| row.calls).copied().collect()
+}
+
+/// Fails the run for what it has not reached, and for what no call may answer.
+pub fn check(tally: &mut Tally) {
+    let all = outcomes();
+    for (call, kind) in &all {
+        if !tally.has_reached(call, kind) {
+            tally.fail(format!("not reached: {call}: {kind}"));
+        }
+    }
+    for (call, kind) in tally.reached() {
+        if !all.iter().any(|(its, allowed)| *its == call && *allowed == kind) {
+            tally.fail(format!("reached, and not allowed: {call}: {kind}"));
+        }
+    }
+}
