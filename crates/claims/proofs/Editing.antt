@@ -110,7 +110,8 @@ module _ (i : List ℕ) (g : Region) (read : master i ≡ Read g) (y i′ : List
 
   untouched : (name : List ℕ) → Others (bytesOf i g) (g .align) name (bytesOf i′ g)
       → (t : Entry) → List·Memᴰ t (guardedEntries i g) → (t .component .name ≡ name → ⊥) → (j : ℕ) → t .place ≤ j → j < end t → getD i′ j 0 ≡ getD i j 0
-  untouched name o = through true g i (λ t. (t .component .name ≡ name → ⊥) → (j : ℕ) → t .place ≤ j → j < end t → getD i′ j 0 ≡ getD i j 0) (λ t m h j lo hi. go t m h (j - g .start) j (omega arith) lo hi)
+  untouched name o = through true g i (λ t. (t .component .name ≡ name → ⊥) → (j : ℕ) → t .place ≤ j → j < end t → getD i′ j 0 ≡ getD i j 0)
+      (λ t m h j lo hi. go t m h (j - g .start) j (omega arith) lo hi)
     where
       go : (t : Entry) → List·Memᴰ t (guardedListing (bytesOf i g) (g .align)) → (t .component .name ≡ name → ⊥) → (k j : ℕ) → j ≡ g .start + k
           → g .start + t .place ≤ j → j < end (placed g t) → getD i′ j 0 ≡ getD i j 0
@@ -159,7 +160,9 @@ module _ (i : List ℕ) (g : Region) (read : master i ≡ Read g) (y i′ : List
   ones-there s p n same j e h = go (j - g .start) (omega arith) (decLt j (g .end))
     where
       go : (k : ℕ) → j ≡ g .start + k → Dec (j < g .end) → getD i′ j 0 ≡ 255
-      go k q (yes l) = let f : k < g .end - g .start = omega arith in rw q (sym (bytes-at i g read i′ k (ar .alike) f) ∙ same k (sym (slot-there s p k f) ∙ rw q at e) (omega arith))
+      go k q (yes l) =
+          let f : k < g .end - g .start = omega arith in
+          rw q (sym (bytes-at i g read i′ k (ar .alike) f) ∙ same k (sym (slot-there s p k f) ∙ rw q at e) (omega arith))
       go k q (no m) = absurd (true≢false (sym e ∙ past (leb (g .start) j) _ (le-ltb j (g .end) (omega arith))))
         where
           past : (b c : Bool) {d : Bool} → d ≡ false → b && d && c ≡ false
@@ -213,14 +216,21 @@ module _ (i : List ℕ) (g : Region) (read : master i ≡ Read g) where
           leaves = leaves i g read _ i₁ ar₁ name p i₁ (a .accepted) (a .others) (λ k f. sym (a .slot .rest k f));
           there = there i g read _ i₁ ar₁ (entryAt p name kind content) (a .finds);
           listed = listed;
-          free = (p, refl, there-place, held-exactly r (g .align) (omega (arith, big)) small acc p (length (spanBytes name kind content)) there-place .0 (a .held));
+          free = (
+            p,
+            refl,
+            there-place,
+            held-exactly r (g .align) (omega (arith, big)) small acc p (length (spanBytes name kind content)) there-place .0 (a .held),
+          );
           lowest = λ q pl f. let l = a .least q (held-exactly r (g .align) (omega (arith, big)) small acc q (length (spanBytes name kind content)) pl .1 f) in omega arith;
           ones = λ j k l. ones-there i g read _ i₁ ar₁ i₁ p (p + length (spanBytes name kind content)) (a .ones) j k (omega arith);
           undone = undone p u;
         }
           where
             there-place : Place (g .align) p
-            there-place = given true (bytesOf i₁ g) (g .align) _ (lookup-member true (bytesOf i₁ g) (g .align) name (entryAt p name kind content) (a .finds .guardedly) .0) .at
+            there-place =
+                let m = lookup-member true (bytesOf i₁ g) (g .align) name (entryAt p name kind content) (a .finds .guardedly) in
+                given true (bytesOf i₁ g) (g .align) (entryAt p name kind content) (m .0) .at
 
             small : length r ≤ 0xFFFFFFFF
             small = omega (arith, bytes-length i g read i refl, known i g read .short, known i g read .inside)

@@ -69,7 +69,8 @@ module _ (i : List ℕ) (g : Region) (read : master i ≡ Read g) where
 
   replace-accepted : (name content : List ℕ) (q : ℕ) → replaceIn i g name content .answer ≡ Done q → AcceptedImage i g
   unfolding replace
-  replace-accepted name content q e = done-accepted (renewing (g .align) name content (slotOf (length (bytesOf i g)) name (plainListing (bytesOf i g) (g .align)))) q e
+  replace-accepted name content q e =
+      done-accepted (renewing (g .align) name content (slotOf (length (bytesOf i g)) name (plainListing (bytesOf i g) (g .align)))) q e
 
   remove-accepted : (name : List ℕ) (q : ℕ) → removeIn i g name .answer ≡ Done q → AcceptedImage i g
   unfolding remove

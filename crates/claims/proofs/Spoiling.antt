@@ -89,16 +89,20 @@ module _ (i : List ℕ) (g : Region) (read : master i ≡ Read g) (acc : Accepte
     listed = through true g i (λ t. fromSlots set i g t ≡ false → List·Memᴰ t (guardedEntries i′ g))
         (λ t m f. map-mem (placed g) (guardedListing (bytesOf i′ g) (g .align)) t (kept .listed t m (sym (told-slot i refl t m) ∙ f)));
     rest = kept-rest i′ (sp .alike) ∙ ap (map (placed g)) (kept .rest) ∙ sym (kept-rest i refl);
-    inside = through true g i′ (λ t. fromSlots set i g t ≡ true → (j : ℕ) → t .place ≤ j → j < end t → inSlots set i g j ≡ true) (λ t m f j lo hi. within t m f (j - g .start) j (omega arith) lo hi);
+    inside = through true g i′ (λ t. fromSlots set i g t ≡ true → (j : ℕ) → t .place ≤ j → j < end t → inSlots set i g j ≡ true)
+        (λ t m f j lo hi. within t m f (j - g .start) j (omega arith) lo hi);
     before = through true g i (Gives true i) (λ t m. gives-there i g read true t (alone t m));
-    lookup = through true g i (λ t. fromSlots set i g t ≡ false → rivalled set i g i′ (t .component .name) ≡ false → Gives true i′ t × (guardedFind i′ (t .component .name) ≡ guardedFind i (t .component .name))) as-before;
+    lookup = through true g i (λ t. fromSlots set i g t ≡ false → rivalled set i g i′ (t .component .name) ≡ false
+        → Gives true i′ t × (guardedFind i′ (t .component .name) ≡ guardedFind i (t .component .name))) as-before;
     refused = through true g i (λ t. fromSlots set i g t ≡ false → rivalled set i g i′ (t .component .name) ≡ true → Refuses true i′ (t .component .name) 11)
         (λ t m f r. refuses-there i′ g read′ true (t .component .name) 11 (rw r at (looked t m f)));
   }
     where
       kept-rest : (x : List ℕ) → length x ≡ length i
-          → keep (λ t. not (fromSlots set i g t)) (guardedEntries x g) ≡ map (placed g) (keep (λ t. not (hit inner (bytesOf i g) (g .align) (t .place))) (guardedListing (bytesOf x g) (g .align)))
-      kept-rest x e = keep-map (λ t. not (fromSlots set i g t)) (λ t. not (hit inner (bytesOf i g) (g .align) (t .place))) (placed g) (guardedListing (bytesOf x g) (g .align)) (λ t m. ap not (told-slot x e t m))
+          → keep (λ t. not (fromSlots set i g t)) (guardedEntries x g)
+          ≡ map (placed g) (keep (λ t. not (hit inner (bytesOf i g) (g .align) (t .place))) (guardedListing (bytesOf x g) (g .align)))
+      kept-rest x e = keep-map (λ t. not (fromSlots set i g t)) (λ t. not (hit inner (bytesOf i g) (g .align) (t .place))) (placed g)
+          (guardedListing (bytesOf x g) (g .align)) (λ t m. ap not (told-slot x e t m))
 
       within : (t : Entry) → List·Memᴰ t (guardedListing (bytesOf i′ g) (g .align)) → fromSlots set i g (placed g t) ≡ true → (k j : ℕ) → j ≡ g .start + k
           → g .start + t .place ≤ j → j < end (placed g t) → inSlots set i g j ≡ true

@@ -72,7 +72,8 @@ module _ (i : List ℕ) (g : Region) (read : master i ≡ Read g) where
 
   -- "An unfit one is simply borne by nobody": no listed component has such a name.
   pub unfit-borne-by-nobody : (w : Bool) (name : List ℕ) → UnfitName name → (t : Entry) → List·Memᴰ t (entries w i g) → t .component .name ≡ name → ⊥
-  unfit-borne-by-nobody w name u = through w g i (λ t. t .component .name ≡ name → ⊥) (λ t m e. true≢false (sym (fit t m) ∙ name-words (t .component .name) .1 (rw e u)))
+  unfit-borne-by-nobody w name u = through w g i (λ t. t .component .name ≡ name → ⊥)
+      (λ t m e. true≢false (sym (fit t m) ∙ name-words (t .component .name) .1 (rw e u)))
     where
       fit : (t : Entry) → List·Memᴰ t (regionListing w i g) → nameFits (t .component .name) ≡ true
       fit t m = judge-name (drop (t .place) (bytesOf i g)) (t .component) (given w (bytesOf i g) (g .align) t m .judged) .0

@@ -31,11 +31,20 @@ use Rattle.region.specs.declared.Found.the-variants.{Refused as FoundRefused}
 use Rattle.reading.specs.Reading.{stepOf, strictCheck}
 use Rattle.finding.specs.Finding.{findOf, contentFoundBy, nameAt, contentAt}
 use Rattle.editing.specs.Editing.{added, replaced, removed}
+use Rattle.load.specs.Fits.{loadTests}
+use Rattle.stage.specs.Stage.{stageTests, stageAnswer, stageOf, stageIn}
+use Rattle.payload.specs.Payload.{payloadTests, planOf, refusedPayload, payloadAnswer, payloadOf, payloadIn}
+use Rattle.planning.specs.Planning.{stage, payload}
 
 -- What is computed below.
 unfoldable opened : ℕ
 unfolding ones onesIn be le beBytes leBytes partOf eqBytes splice all any keep padded noTwo nameTests nameFits beforeZero fieldTests fieldFits magic startsWithMagic componentOf headerTests wellFormed fields judge placesBelow places carries buried plain unless guarded orElse first step onward follow steps listingFrom bears foremost only lengthFits bytesOf headerAt addressFits bootblockFits alignFits offsetFits tests refusal master takes stray strays decide verdict start fieldSize headerBytes fieldBytes spanBytes buries runs lowest slotOf filled adding renewing clearing carriedOut add replace remove stepFits stepBy fromPlace noPlaces
 opened = 0
+
+-- And for plans.
+unfoldable planning : ℕ
+unfolding stageTests loadTests stageAnswer stageOf stageIn payloadTests planOf refusedPayload payloadAnswer payloadOf payloadIn
+planning = 0
 
 -- A component of type 0x50 with the offset 40, whose name is the letter c, and one byte of content; 64 bytes with what follows it.
 abbrev component : ℕ → List ℕ
@@ -103,6 +112,12 @@ twice : (findOf true alike (0x61 ∷ []) ≡ FoundRefused (refusedBy 11)) × (co
     × (contentFoundBy false alike (0x61 ∷ []) ≡ 7 ∷ [])
 unfolding opened
 twice = (refl, refl, refl)
+
+-- Plans: 8 before 10, and 11 before 18.
+planned : (stage unaligned [] .number ≡ 8) × (payload unaligned [] .number ≡ 8) × (stage alike (0x61 ∷ []) .number ≡ 11) × (payload alike (0x61 ∷ []) .number ≡ 11)
+    × (stage fine (0x61 ∷ []) .number ≡ 18) × (payload fine (0x61 ∷ []) .number ≡ 18)
+unfolding opened planning
+planned = (refl, refl, refl, refl, refl, refl)
 
 parts : (nameAt fine 128 ≡ 0x62 ∷ []) × (contentAt fine 128 ≡ 7 ∷ []) × (nameAt fine 192 ≡ []) × (nameAt fine 0 ≡ []) × (contentAt unaligned 128 ≡ [])
 unfolding opened

@@ -88,7 +88,8 @@ payloads =
     ∷ (0, many 15 ++ entry)
     ∷ (21, many 16)
     ∷ (21, many 16 ++ entry)
-    -- the order: 22 before 23, 23 before 24, 24 before 25, 25 before 26
+    -- the order: 20 before 22, 22 before 23, 23 before 24, 24 before 25, 25 before 26
+    ∷ (20, segment 0x434F4445 3 39 0x1000 0 0 ++ entry)
     ∷ (22, segment codeType 3 39 0x1000 0 0 ++ entry)
     ∷ (23, segment codeType 0 39 0x1000 2 1 ++ entry)
     ∷ (24, segment codeType 0 40 (2 ^ 64 - 2) 4 3 ++ entry)

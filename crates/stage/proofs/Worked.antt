@@ -31,6 +31,7 @@ stages =
     ∷ (25, header 0 (2 ^ 64 - 16) (2 ^ 64 - 16) 8 17 ++ replicate 8 0)
     -- no whole header; compression; the binary's end; its memory
     ∷ (19, replicate 27 0)
+    ∷ (19, leBytes 4 3 ++ replicate 23 0)
     ∷ (0, header 2 0x1000 0x1000 0 0)
     ∷ (22, header 3 0x1000 0x1000 9 0 ++ replicate 8 0)
     ∷ (23, header 0 0x1000 0x1000 9 0 ++ replicate 8 0)
