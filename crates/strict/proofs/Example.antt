@@ -48,6 +48,11 @@ verdict-order : verdict 0 region500 64 ∷ verdict 1 regionTwice 64 ∷ verdict 
 unfolding beBytes larchive cal head slot0 slot192 region be eqBytes all nameTests nameFits beforeZero fieldTests fieldFits magic startsWithMagic componentOf headerTests wellFormed fields judge any keep placesBelow places carries plain orElse first step onward follow steps listingFrom bears takes stray strays noTwo decide verdict
 verdict-order = refl
 
+-- 256 components are allowed, and 257 are not: with names that are all alike, 11 is given for 256, and 13, which comes first, for 257.
+limits : decide limit [] (replicate 256 (entry 0 0x32 0)) ∷ decide limit [] (replicate 257 (entry 0 0x32 0)) ∷ [] ≡ refused 11 0 ∷ refused 13 0 ∷ []
+unfolding decide noTwo any bears eqBytes cal entry
+limits = refl
+
 -- The guarded walk lists only cal/13, at 192.
 listed-500 : guardedListing region500 64 ≡ entry 192 0x33 24 ∷ []
 unfolding beBytes larchive cal head slot0 slot192 region entry be eqBytes all nameTests nameFits beforeZero fieldTests fieldFits magic startsWithMagic componentOf headerTests wellFormed fields judge any placesBelow places carries buried plain guarded unless orElse first step onward follow steps listingFrom
