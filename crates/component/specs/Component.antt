@@ -1,7 +1,7 @@
 -- A component, judged on the part of the image that begins at its place (document 01, "Components and the two walks").
 use Prim.Native.Nat.{ℕ, _+_, _-_, _%_}
 use mathlib.Core.List.{List, [], _∷_}
-use mathlib.Core.Bool.{Bool, cond}
+use mathlib.Core.Bool.{Bool, false, cond}
 use mathlib.Core.Option.{Option, some, none}
 use lib.ListN.{length, take, drop}
 use lib.Dec.{leb, eqb}
@@ -98,3 +98,8 @@ nameOf (some c) = c .name
 abbrev pub contentOf : Option Component → List ℕ
 contentOf none = []
 contentOf (some c) = c .content
+
+-- The component bears the name. Where there is none, it bears no name, not even the empty one.
+abbrev pub bearsName : List ℕ → Option Component → Bool
+bearsName name none = false
+bearsName name (some c) = eqBytes (c .name) name

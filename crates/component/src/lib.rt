@@ -3,7 +3,7 @@
 ghost use mathlib.Core.Path.{_≡_};
 ghost use Rattle.number.specs.Tests.{all};
 ghost use Rattle.component.specs.Names.{isZero, nameFits, nameLength};
-ghost use Rattle.component.specs.Component.{startsWithMagic, fields as fieldsOf, judge as judgeOf, judged, nameOf, contentOf};
+ghost use Rattle.component.specs.Component.{startsWithMagic, fields as fieldsOf, judge as judgeOf, judged, nameOf, contentOf, bearsName};
 
 // The numbers of a well-formed header.
 pub struct Header {
@@ -133,6 +133,29 @@ pub fn name(s: &[u8]) -> &[u8]
     match j {
         Judged::WellFormed(h) => number::part(s, 24, h.named),
         Judged::IllFormed => &s[0..0],
+    }
+}
+
+// The component that stands at the start of the part bears the name. Where the name field does not begin with the name and a zero, the judge is
+// not asked. No component's name is longer than 255 bytes, and no longer one is compared.
+pub fn is_named(s: &[u8], name: &[u8]) -> bool
+    ensures { λ b. ⌜ b ≡ bearsName (now (name .entry)) (judgeOf (now (s .entry))) ⌝ }
+    ensures kept { λ _. ⌜ (now (s .exit) ≡ now (s .entry)) × (now (name .exit) ≡ now (name .entry)) ⌝ }
+{
+    let asked = name.len();
+    if 255 < asked {
+        return false;
+    }
+    if !number::equal(number::part(s, 24, asked), name) {
+        return false;
+    }
+    if number::byte(s, 24 + asked) != 0 {
+        return false;
+    }
+    let j = judge(s);
+    match j {
+        Judged::WellFormed(h) => h.named == asked,
+        Judged::IllFormed => false,
     }
 }
 

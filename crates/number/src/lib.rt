@@ -7,6 +7,13 @@ ghost use Rattle.number.specs.Number.{be, le, turned as turnedOf};
 ghost use Rattle.number.specs.Bytes.{partOf, eqBytes};
 ghost use Rattle.number.specs.Letters.{printed as printedOf};
 
+// The lesser of two numbers.
+pub fn least(a: usize, b: usize) -> usize
+    ensures { λ r. ⌜ r ≡ min a b ⌝ }
+{
+    if a < b { a } else { b }
+}
+
 // The byte at `at`.
 pub fn byte(s: &[u8], at: usize) -> u8
     ensures { λ r. ⌜ r ≡ getD (now (s .entry)) at 0 ⌝ }

@@ -4,7 +4,7 @@ use component::Header;
 use component::Judged;
 ghost use mathlib.Core.Path.{_≡_};
 ghost use mathlib.Core.Bool.{false, cond};
-ghost use Prim.Native.Nat.{_+_, _-_, _≤_, _<_, min};
+ghost use Prim.Native.Nat.{_+_, _-_, _≤_, _<_};
 ghost use lib.ListN.{length};
 ghost use Rattle.walk.specs.Walk.{nextMagic, onward as onwardOf, step as stepOf, told, pickOf, plain};
 
@@ -18,12 +18,6 @@ pub struct Taken {
 pub enum Step {
     Took(Taken),
     NoneLeft,
-}
-
-fn least(a: usize, b: usize) -> usize
-    ensures { λ r. ⌜ r ≡ min a b ⌝ }
-{
-    if a < b { a } else { b }
 }
 
 // The hunt's loop, below a number after which eight bytes still lie in the region.
@@ -53,7 +47,7 @@ pub fn next_magic(r: &[u8], align: usize, from: usize, below: usize) -> usize
     if r.len() < 8 {
         return below;
     }
-    let stop = least(below, r.len() - 7);
+    let stop = number::least(below, r.len() - 7);
     if stop <= from {
         return below;
     }
