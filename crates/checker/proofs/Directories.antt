@@ -1,28 +1,27 @@
 -- Laws of the directory: places stored, and places told from a start.
 use Prim.Native.Nat.{ℕ, zero, suc, _+_, _-_, _≤_, _<_}
-use native.Mathlib.Nat.{sub-zero, add-zero}
+use native.Mathlib.Nat.{sub-zero, zero-sub, add-zero}
 use native.Mathlib.Numerals.{add-one}
 use native.Mathlib.Omega.{arith}
 use mathlib.Core.Path.{_≡_, refl, sym, ap, _∙_}
 use mathlib.Core.List.{List, [], _∷_, _++_, map, map-append, append-assoc}
-use lib.ListN.{length, take, drop, getD, set, replicate, length-map, length-append}
-use lib.Seq.{take-suc, drop-cons, set-at, getD-at, length-take-le}
+use lib.ListN.{length, take, drop, getD, set, replicate, length-replicate, length-map, length-append}
+use lib.Seq.{take-suc, drop-cons, set-at, getD-at, length-take-le, take-at, drop-append-seam}
 use Rattle.number.specs.Lists.{padded}
-use Rattle.number.proofs.Padding.{padded-take, padded-drop}
 use Rattle.walk.specs.Walk.{Entry}
 use Rattle.strict.specs.Strict.{limit, placesOf}
 use Rattle.checker.specs.Directory.{noPlaces, fill}
 
 -- The places of a listing that has room are stored one after the other.
 
-filled : (ps : List ℕ) (k n : ℕ) (l : List Entry) → length ps ≡ n → length l ≤ k → fill (ps ++ replicate k 0) n l ≡ ps ++ (placesOf l ++ replicate (k - length l) 0)
+filled : (ps d : List ℕ) (n : ℕ) (l : List Entry) → length ps ≡ n → length l ≤ length d → fill (ps ++ d) n l ≡ ps ++ (placesOf l ++ drop (length l) d)
 unfolding fill
-filled ps k n [] e h = rw sub-zero
-filled ps zero n (t ∷ l) e h = absurd (omega arith)
-filled ps (suc k) n (t ∷ l) e h =
-    let s : set (ps ++ (0 ∷ replicate k 0)) n (t .place) ≡ (ps ++ (t .place ∷ [])) ++ replicate k 0 = set-at ps 0 (replicate k 0) (t .place) n e ∙ sym (append-assoc ps (t .place ∷ []) (replicate k 0)) in
-    let m : suc k - suc (length l) ≡ k - length l = omega arith in
-    rw (s, m) (filled (ps ++ (t .place ∷ [])) k (n + 1) l (simp length-append (omega arith)) (omega arith) ∙ append-assoc ps (t .place ∷ []) (placesOf l ++ replicate (k - length l) 0))
+filled ps d n [] e h = refl
+filled ps [] n (t ∷ l) e h = absurd (omega arith)
+filled ps (x ∷ d) n (t ∷ l) e h =
+    let s : set (ps ++ (x ∷ d)) n (t .place) ≡ (ps ++ (t .place ∷ [])) ++ d = set-at ps x d (t .place) n e ∙ sym (append-assoc ps (t .place ∷ []) d) in
+    let longer : length (ps ++ (t .place ∷ [])) ≡ n + 1 = simp length-append (omega arith) in
+    rw s (filled (ps ++ (t .place ∷ [])) d (n + 1) l longer (omega arith) ∙ append-assoc ps (t .place ∷ []) (placesOf l ++ drop (length l) d))
 
 -- One more is stored after those that are.
 pub fill-snoc : (d : List ℕ) (n : ℕ) (l : List Entry) (t : Entry) → fill d n (l ++ (t ∷ [])) ≡ set (fill d n l) (n + length l) (t .place)
@@ -30,13 +29,12 @@ unfolding fill
 fill-snoc d n [] t = rw add-zero
 fill-snoc d n (x ∷ l) t = fill-snoc (set d n (x .place)) (n + 1) l t ∙ ap (λ (k : ℕ). set (fill (set d n (x .place)) (n + 1) l) k (t .place)) (omega arith)
 
-pub fill-padded : (l : List Entry) → length l ≤ limit → fill noPlaces 0 l ≡ padded limit 0 (placesOf l)
-unfolding noPlaces padded
-fill-padded l h = filled [] limit 0 l refl h ∙ rw length-map
+pub fill-over : (d : List ℕ) (l : List Entry) → length l ≤ length d → fill d 0 l ≡ placesOf l ++ drop (length l) d
+fill-over d l h = filled [] d 0 l refl h
 
 -- The first places told from s.
 
-abbrev toldTo : ℕ → List ℕ → ℕ → List ℕ
+abbrev pub toldTo : ℕ → List ℕ → ℕ → List ℕ
 toldTo s d i = map (λ p. s + p) (take i d) ++ drop i d
 
 long : (s : ℕ) (d : List ℕ) (i : ℕ) → i ≤ length d → length (map (λ p. s + p) (take i d)) ≡ i
@@ -52,6 +50,20 @@ told-next s d i h =
     let u : set (m ++ drop i d) i (s + getD d i 0) ≡ m ++ ((s + getD d i 0) ∷ drop (suc i) d) = rw (drop-cons d i 0 h) (set-at m (getD d i 0) (drop (suc i) d) (s + getD d i 0) i (long s d i (omega arith))) in
     u ∙ sym (rw (add-one i, take-suc d i 0 h, map-append (λ p. s + p) (take i d) (getD d i 0 ∷ [])) (append-assoc m ((s + getD d i 0) ∷ []) (drop (suc i) d)))
 
--- The directory of a listing, told from s.
-pub told-padded : (s : ℕ) (ps : List ℕ) → length ps ≤ limit → toldTo s (padded limit 0 ps) (length ps) ≡ padded limit 0 (map (λ p. s + p) ps)
-told-padded s ps h = rw (padded-take limit 0 ps (length ps) refl, padded-drop limit 0 ps) (unfold padded in rw length-map)
+-- The directory of a listing, told from s: its places stored over zeros.
+
+zeros-left : (w n : ℕ) → drop {A = ℕ} n (replicate w 0) ≡ replicate (w - n) 0
+zeros-left w zero = rw sub-zero
+zeros-left zero (suc n) = rw zero-sub
+zeros-left (suc w) (suc n) = let e : suc w - suc n ≡ w - n = omega arith in rw e (zeros-left w n)
+
+pub told-padded : (s : ℕ) (ps : List ℕ) → toldTo s (ps ++ drop (length ps) noPlaces) (length ps) ≡ padded limit 0 (map (λ p. s + p) ps)
+unfolding noPlaces padded
+told-padded s ps =
+    let zeros : List ℕ = drop (length ps) (replicate limit 0) in
+    rw (take-at ps zeros (length ps) refl, drop-append-seam ps zeros, zeros-left limit (length ps), length-map)
+
+-- An array of that width, cleared.
+pub cleared-zeros : replicate (length noPlaces) 0 ≡ noPlaces
+unfolding noPlaces
+cleared-zeros = ap (λ (n : ℕ). replicate {A = ℕ} n 0) (length-replicate {A = ℕ} limit 0)

@@ -1,17 +1,19 @@
 -- Names told apart: the components at a run of places are looked at one by one, their digests first.
-use Prim.Native.Nat.{ℕ, suc, _+_, _-_, _≤_, _<_}
+use Prim.Native.Nat.{ℕ, zero, suc, _+_, _-_, _≤_, _<_}
 use native.Mathlib.Numerals.{add-one}
 use native.Mathlib.Omega.{arith}
 use native.Mathlib.Decide.{decLt}
-use mathlib.Core.Path.{_≡_, refl, ap, _∙_}
+use mathlib.Core.Path.{_≡_, refl, sym, ap, _∙_}
 use mathlib.Core.List.{List, [], _∷_, List·Memᴰ, List·Memᴰ·head, List·Memᴰ·tail}
-use mathlib.Core.Bool.{Bool, true, false}
-use mathlib.Core.Option.{some}
+use mathlib.Core.Bool.{Bool, true, false, _||_, true≢false}
+use mathlib.Core.Option.{Option, some, none}
 use lib.ListN.{length, take, drop, getD, set, length-set, drop-of-length-le}
+use lib.Dec.{eqb}
+use borrow.Author.Tests.{eq-eqb, ne-eqb}
 use lib.Seq.{getD-set-same, getD-set-other, drop-cons}
 use Rattle.number.specs.Bytes.{eqBytes}
 use Rattle.number.proofs.SameBytes.{eq-true}
-use Rattle.component.specs.Component.{judge}
+use Rattle.component.specs.Component.{Component, judge, nameOf, bearsName}
 use Rattle.number.specs.Lists.{any, noTwo}
 use Rattle.walk.specs.Walk.{Entry, plainListing}
 use Rattle.lookup.specs.Lookup.{bears}
@@ -44,6 +46,41 @@ pub any-end : (f : ℕ → Bool) (ps : List ℕ) (k n : ℕ) → n ≤ k → any
 unfolding any
 any-end f ps k n h = rw (window-end ps k n h)
 
+-- The same where the search goes on after it has found one: b says whether it has.
+
+abbrev pub among : ℕ → List ℕ → Bool
+among asked l = any (λ d. eqb d asked) l
+
+module _ (asked : ℕ) (l : List ℕ) (k n : ℕ) (b : Bool) where
+  pub found-here : k < n → n ≤ length l → getD l k 0 ≡ asked → (b || among asked (take (n - k) (drop k l))) ≡ true
+  found-here h m e = rw (any-here (λ d. eqb d asked) l k n h m (eq-eqb (getD l k 0) asked e)) (go b)
+    where
+      go : (x : Bool) → (x || true) ≡ true
+      go true = refl
+      go false = refl
+
+  pub found-on : k < n → n ≤ length l → (getD l k 0 ≡ asked → ⊥)
+      → (b || among asked (take (n - k) (drop k l))) ≡ (b || among asked (take (n - (k + 1)) (drop (k + 1) l)))
+  found-on h m e = rw (any-on (λ d. eqb d asked) l k n h m (ne-eqb (getD l k 0) asked e))
+
+  pub found-end : n ≤ k → (b || among asked (take (n - k) (drop k l))) ≡ b
+  found-end h = rw (any-end (λ d. eqb d asked) l k n h) (go b)
+    where
+      go : (x : Bool) → (x || false) ≡ x
+      go true = refl
+      go false = refl
+
+-- Where no second test passes, and the first passes only where the second does, the first does not pass either.
+pub any-less : (f g : ℕ → Bool) (ps ds : List ℕ) (n : ℕ) → n ≤ length ps → n ≤ length ds → ((j : ℕ) → j < n → g (getD ds j 0) ≡ false → f (getD ps j 0) ≡ false)
+    → (d k : ℕ) → k + d ≡ n → any g (take (n - k) (drop k ds)) ≡ false → any f (take (n - k) (drop k ps)) ≡ false
+any-less f g ps ds n l m h zero k e q = any-end f ps k n (omega arith)
+any-less f g ps ds n l m h (suc d) k e q = go (g (getD ds k 0)) refl (any-less f g ps ds n l m h d (k + 1) (omega arith))
+  where
+    go : (b : Bool) → g (getD ds k 0) ≡ b → (any g (take (n - (k + 1)) (drop (k + 1) ds)) ≡ false → any f (take (n - (k + 1)) (drop (k + 1) ps)) ≡ false)
+        → any f (take (n - k) (drop k ps)) ≡ false
+    go true y ih = absurd (true≢false (sym (any-here g ds k n (omega arith) m y) ∙ q))
+    go false y ih = any-on f ps k n (omega arith) l (h k (omega arith) y) ∙ ih (sym (any-on g ds k n (omega arith) m y) ∙ q)
+
 -- Are their names apart?
 
 pub apart-not : (r ps : List ℕ) (i n : ℕ) → i < n → n ≤ length ps
@@ -63,10 +100,11 @@ apart-end r ps i n h = rw (window-end ps i n h)
 
 -- The places tell the names apart as the listing does.
 
-abbrev Judged : List ℕ → List Entry → Type 0
+-- Components that the judge finds at their places.
+abbrev pub Judged : List ℕ → List Entry → Type 0
 Judged r l = (e : Entry) → List·Memᴰ e l → judge (drop (e .place) r) ≡ some (e .component)
 
-same-any : (r name : List ℕ) (l : List Entry) → Judged r l → any (named r name) (placesOf l) ≡ any (bears name) l
+pub same-any : (r name : List ℕ) (l : List Entry) → Judged r l → any (named r name) (placesOf l) ≡ any (bears name) l
 unfolding any named bears
 same-any r name [] j = refl
 same-any r name (e ∷ l) j = rw (j e (List·Memᴰ·head refl), same-any r name l (λ x m. j x (List·Memᴰ·tail m)))
@@ -94,10 +132,11 @@ digest-end s i h b = rw (drop-of-length-le s b)
 -- The digests of the names, stored one after the other.
 
 pub digests-none : (r places l : List ℕ) → length l ≡ limit → NameDigests r places 0 l
-digests-none r places l e = record { wide = e; each = λ k h. absurd (omega arith) }
+digests-none r places l e = record { few = omega arith; stored = omega arith; wide = e; each = λ k h. absurd (omega arith) }
 
-pub digests-on : (r places l : List ℕ) (i d : ℕ) → i < limit → d ≡ digestOf (nameAt r (getD places i 0)) → NameDigests r places i l → NameDigests r places (i + 1) (set l i d)
-digests-on r places l i d h e n = record { wide = simp length-set (n .wide); each = each }
+pub digests-on : (r places l : List ℕ) (i d : ℕ) → i < limit → i < length places → d ≡ digestOf (nameAt r (getD places i 0)) → NameDigests r places i l
+    → NameDigests r places (i + 1) (set l i d)
+digests-on r places l i d h m e n = record { few = omega arith; stored = omega arith; wide = simp length-set (n .wide); each = each }
   where
     each : (k : ℕ) → k < i + 1 → getD (set l i d) k 0 ≡ digestOf (nameAt r (getD places k 0))
     each k b = go (decLt k i)
@@ -111,8 +150,19 @@ digests-on r places l i d h e n = record { wide = simp length-set (n .wide); eac
 -- Equal names have equal digests: where the digests differ, the names do.
 pub named-not : (r name : List ℕ) (p : ℕ) → (digestOf (nameAt r p) ≡ digestOf name → ⊥) → named r name p ≡ false
 unfolding named
-named-not r name p h = go (eqBytes (nameAt r p) name) refl
+named-not r name p h = go (judge (drop p r)) h
   where
-    go : (b : Bool) → eqBytes (nameAt r p) name ≡ b → b ≡ false
-    go true e = absurd (h (ap digestOf (eq-true (nameAt r p) name e)))
-    go false e = refl
+    by : (c : Component) → (digestOf (c .name) ≡ digestOf name → ⊥) → (b : Bool) → eqBytes (c .name) name ≡ b → b ≡ false
+    by c k true e = absurd (k (ap digestOf (eq-true (c .name) name e)))
+    by c k false e = refl
+
+    go : (o : Option Component) → (digestOf (nameOf o) ≡ digestOf name → ⊥) → bearsName name o ≡ false
+    go none k = refl
+    go (some c) k = by c k (eqBytes (c .name) name) refl
+
+-- Where no digest from k up to n agrees, no name does.
+pub none-shared : (r places l name : List ℕ) (k n asked : ℕ) → k ≤ n → NameDigests r places n l → asked ≡ digestOf name
+    → any (λ d. eqb d asked) (take (n - k) (drop k l)) ≡ false → any (named r name) (take (n - k) (drop k places)) ≡ false
+none-shared r places l name k n asked h d e =
+    any-less (named r name) (λ x. eqb x asked) places l n (d .stored) (omega (arith, d .wide, d .few))
+    (λ j b q. named-not r name (getD places j 0) (λ z. true≢false (sym (eq-eqb (getD l j 0) asked (d .each j b ∙ z ∙ sym e)) ∙ q))) (n - k) k (omega arith)

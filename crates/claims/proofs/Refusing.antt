@@ -179,10 +179,10 @@ module _ (i : List ℕ) where
 
   -- The strict check: 1 to 8, 12, 13, 11.
   pub strict-exactly : (n : ℕ) → (strictCheck i .number ≡ n) ↔ Given (strictRows i) n
-  strict-exactly = on-image i (checkRows 256 s a) (strictCheck i .number) (λ x e. rw e)
-      (λ e. rw e (go v (check-exactly 256 s a (align-some e) (verdictNumber v) .0 refl)))
+  strict-exactly = on-image i (checkRows limit s a) (strictCheck i .number) (λ x e. rw e)
+      (λ e. rw e (go v (check-exactly limit s a (align-some e) (verdictNumber v) .0 refl)))
     where
-      go : (w : Verdict) → Given (checkRows 256 s a) (verdictNumber w) → Given (checkRows 256 s a) (directory (g .start) w .number)
+      go : (w : Verdict) → Given (checkRows limit s a) (verdictNumber w) → Given (checkRows limit s a) (directory (g .start) w .number)
       go (refused n p) h = h
       go (accepted ps) h = h
 
@@ -196,18 +196,18 @@ module _ (i : List ℕ) where
   module _ (name : List ℕ) where
     pub add-exactly : (kind : ℕ) (content : List ℕ) (n : ℕ) → (editNumber (added i name kind content .answer) ≡ n) ↔ Given (imageAddRows i name kind content) n
     unfolding add
-    add-exactly kind content = on-image i (checkRows 256 s a ++ addRows 256 s a name kind content) (editNumber (added i name kind content .answer))
+    add-exactly kind content = on-image i (checkRows limit s a ++ addRows limit s a name kind content) (editNumber (added i name kind content .answer))
         (λ x e. rw e)
         (λ e. rw (e, edit-number (toAdd limit s a name kind content)) (add-given s a (align-some e) (small e) name kind content))
 
     pub replace-exactly : (content : List ℕ) (n : ℕ) → (editNumber (replaced i name content .answer) ≡ n) ↔ Given (imageReplaceRows i name content) n
     unfolding replace
-    replace-exactly content = on-image i (checkRows 256 s a ++ replaceRows s a name content) (editNumber (replaced i name content .answer)) (λ x e. rw e)
+    replace-exactly content = on-image i (checkRows limit s a ++ replaceRows s a name content) (editNumber (replaced i name content .answer)) (λ x e. rw e)
         (λ e. rw (e, edit-number (toReplace limit s a name content)) (replace-given s a (align-some e) (small e) name content))
 
     pub remove-exactly : (n : ℕ) → (editNumber (removed i name .answer) ≡ n) ↔ Given (imageRemoveRows i name) n
     unfolding remove
-    remove-exactly = on-image i (checkRows 256 s a ++ removeRows s a name) (editNumber (removed i name .answer)) (λ x e. rw e)
+    remove-exactly = on-image i (checkRows limit s a ++ removeRows s a name) (editNumber (removed i name .answer)) (λ x e. rw e)
         (λ e. rw (e, edit-number (toRemove limit s a name)) (remove-given s a (align-some e) (small e) name))
 
 -- What a refusal says: a number that is not 0, and its place, which is the lowest such place for 12 and 0 for every other one.

@@ -1,12 +1,14 @@
 -- The decisions, as the code reaches them test by test, and what a decision to write says of its slot.
-use Prim.Native.Nat.{ℕ, _+_, _≤_, _<_}
+use Prim.Native.Nat.{ℕ, _+_, _-_, _≤_, _<_}
+use native.Mathlib.Nat.{sub-zero}
 use native.Mathlib.Omega.{arith}
 use mathlib.Core.Path.{_≡_, refl, sym, ap, subst, _∙_}
-use mathlib.Core.List.{List, [], _∷_, List·Memᴰ, List·Memᴰ·head, List·Memᴰ·tail, List·Memᴰ·not-nil, List·Memᴰ·cases-cons}
+use mathlib.Core.List.{List, [], _∷_, _++_, List·Memᴰ, List·Memᴰ·head, List·Memᴰ·tail, List·Memᴰ·not-nil, List·Memᴰ·cases-cons}
 use mathlib.Core.Logic.{_⊎_, inl, inr}
-use mathlib.Core.Bool.{true, false, cond}
+use mathlib.Core.Bool.{Bool, true, false, cond}
 use mathlib.Core.Option.{Option, some, none}
-use lib.ListN.{length}
+use lib.ListN.{length, take, drop, length-append}
+use lib.Seq.{take-at}
 use lib.Dec.{eqb}
 use borrow.Author.Tests.{lt-leb, lt-ltb}
 use Rattle.component.specs.Names.{nameFits}
@@ -15,21 +17,26 @@ use Rattle.walk.specs.Walk.{Entry, next, plainListing, guardedListing}
 use Rattle.lookup.specs.Lookup.{bears}
 use Rattle.walk.proofs.Members.{given}
 use Rattle.lookup.proofs.Bearers.{bears-name}
-use Rattle.terms.specs.Terms.{refusedBy}
+use Rattle.terms.specs.Terms.{bytesOf, refusedBy}
+use Rattle.terms.specs.declared.Region.{Region}
 use Rattle.terms.specs.declared.Refusal.{Refusal}
-use Rattle.strict.specs.Strict.{limit, Accepted, Verdict, refused, accepted, verdict}
+use Rattle.strict.specs.Strict.{limit, Accepted, Verdict, refused, accepted, placesOf, verdict}
 use Rattle.strict.specs.Slots.{start}
-use Rattle.checker.specs.Directory.{directory}
-use Rattle.checker.specs.declared.Directory.{Directory}
+use Rattle.checker.specs.Directory.{surveyed, placesIn, named}
+use Rattle.checker.specs.declared.Surveyed.{Surveyed}
+use Rattle.checker.proofs.Answers.{survey-fine}
 use Rattle.strict.proofs.Accepting.{walks-agree}
-use Rattle.strict.proofs.Verdicts.{no-other, accepted-count}
 use Rattle.edit.specs.Edit.{Run, holds, runs, freeRuns, lowest, Slot, slotOf, spanBytes, offsetFor, buries, Decision, refuse, write, afterCheck, adding, renewing, clearing, toAdd, toReplace, toRemove}
-use Rattle.room.specs.Room.{run, spaceOf, roomFor, roomOf}
-use Rattle.decide.specs.Code.{kindHeld, choice}
+use Rattle.room.specs.Room.{run, spaceOf, roomFor, roomOf, runsBetween, slotAmong}
+use Rattle.room.specs.declared.Room.{Room}
+use Rattle.decide.specs.Code.{Directed, kindHeld, chosen, kindFor, choice, removal, decided}
+use Rattle.decide.specs.declared.Edit.{Edit}
+use Rattle.decide.specs.declared.Edit.the-variants.{Add, Replace, Remove}
 use Rattle.room.specs.declared.Space.{Space}
 use Rattle.room.specs.declared.Room.the-variants.{Within, Nowhere}
 use Rattle.decide.specs.declared.Choice.{Choice}
 use Rattle.decide.specs.declared.Choice.the-variants.{Write, Refuse}
+use Rattle.room.proofs.Finding.{runs-listed, slot-listed, used-listed}
 use Rattle.edit.proofs.Written.{name-fit, length-span}
 use Rattle.edit.proofs.Runs.{holds-true, lowest-some, row, Own, slot-own}
 use Rattle.edit.proofs.Decisions.{check-write, not-write, same-write, AddCase, unfit, used, full, hidden, nowhere, placed, add-case, RenewCase, unborne, burying, long, fitting, renew-case, ClearCase, missing, clears, clear-case}
@@ -119,41 +126,60 @@ module _ (r : List ℕ) (a : ℕ) (name : List ℕ) (kind : ℕ) (content : List
   pub chose-15 : nameFits name ≡ true → any (bears name) L ≡ true → Refuse (refusedBy 15) ≡ choice s kind D
   chose-15 p q = sym (ap (choice s kind) (adding-15 limit r a name b L .1 (p, q)))
 
-  pub chose-13 : nameFits name ≡ true → any (bears name) L ≡ false → 256 ≤ length L → Refuse (refusedBy 13) ≡ choice s kind D
+  pub chose-13 : nameFits name ≡ true → any (bears name) L ≡ false → limit ≤ length L → Refuse (refusedBy 13) ≡ choice s kind D
   chose-13 p q h = sym (ap (choice s kind) (adding-13 limit r a name b L .1 (p, q, h)))
 
-  pub chose-16 : nameFits name ≡ true → any (bears name) L ≡ false → length L < 256 → buries a b ≡ true → Refuse (refusedBy 16) ≡ choice s kind D
+  pub chose-16 : nameFits name ≡ true → any (bears name) L ≡ false → length L < limit → buries a b ≡ true → Refuse (refusedBy 16) ≡ choice s kind D
   chose-16 p q h v = sym (ap (choice s kind) (adding-16 limit r a name b L .1 (record { named = p; unused = q; few = h }, v)))
 
-  module _ (p : nameFits name ≡ true) (q : any (bears name) L ≡ false) (h : length L < 256) (v : buries a b ≡ false) where
+  module _ (p : nameFits name ≡ true) (q : any (bears name) L ≡ false) (h : length L < limit) (v : buries a b ≡ false) where
     pub chose-17 : lowest (length b) (freeRuns r a) ≡ none → Refuse (refusedBy 17) ≡ choice s kind D
     unfolding adding
-    chose-17 e = rw (p, q, lt-ltb (length L) 256 h, v, e)
+    chose-17 e = rw (p, q, lt-ltb (length L) limit h, v, e)
 
     pub chose-write : (x : Run) → lowest (length b) (freeRuns r a) ≡ some x → Write (spaceOf x kind) ≡ choice s kind D
     unfolding adding
-    chose-write x e = rw (p, q, lt-ltb (length L) 256 h, v, e)
+    chose-write x e = rw (p, q, lt-ltb (length L) limit h, v, e)
+
+-- Names, slots and free runs as they are found by the places of the components.
+module _ (r : List ℕ) (a : ℕ) (ps : List ℕ) (q : Directed r a ps) where
+  pub used-by : (name : List ℕ) {b : Bool} → b ≡ any (named r name) ps → b ≡ any (bears name) (plainListing r a)
+  used-by name e = e ∙ ap (any (named r name)) q ∙ used-listed r a name
+
+  pub slot-by : (name : List ℕ) {x : Room} → x ≡ slotAmong r name ps → x ≡ roomOf (slotOf (length r) name (plainListing r a))
+  slot-by name e = e ∙ ap (slotAmong r name) q ∙ slot-listed r a name
+
+  pub run-by : (k n : ℕ) {x : Room} → x ≡ roomFor k (lowest n (runsBetween r a 0 ps)) → x ≡ roomFor k (lowest n (freeRuns r a))
+  run-by k n e = e ∙ ap (λ (l : List ℕ). roomFor k (lowest n (runsBetween r a 0 l))) q ∙ ap (λ (l : List Run). roomFor k (lowest n l)) (runs-listed r a)
 
 -- The strict check's answer d, and what comes after it.
-module _ (r : List ℕ) (a s k : ℕ) (e : Decision) (d : Directory) (q : d ≡ directory s (verdict limit r a)) where
+module _ (r : List ℕ) (a s k : ℕ) (e : Decision) (d : Surveyed) (q : d ≡ surveyed s (verdict limit r a)) where
   pub checked-refused : (d .number ≡ 0 → ⊥) → Refuse (record { number = d .number; place = d .place }) ≡ choice s k (afterCheck (verdict limit r a) e)
   checked-refused h = go (verdict limit r a) refl q
     where
-      go : (v : Verdict) → verdict limit r a ≡ v → d ≡ directory s v → Refuse (record { number = d .number; place = d .place }) ≡ choice s k (afterCheck v e)
+      go : (v : Verdict) → verdict limit r a ≡ v → d ≡ surveyed s v → Refuse (record { number = d .number; place = d .place }) ≡ choice s k (afterCheck v e)
       go (refused n p) w z = rw z
-      go (accepted ps) w z = absurd (h (ap (λ (x : Directory). x .number) z))
+      go (accepted ps) w z = absurd (h (ap (λ (x : Surveyed). x .number) z))
 
-  pub checked-fine : d .number ≡ 0 → (afterCheck (verdict limit r a) e ≡ e) × (d .count ≡ length (plainListing r a))
-  checked-fine h = go (verdict limit r a) refl q
-    where
-      by : (n p : ℕ) → n ≡ 0 → (n ≡ 12) ⊎ ((n ≡ 13) × (p ≡ 0)) ⊎ ((n ≡ 11) × (p ≡ 0)) → ⊥
-      by n p z (inl x) = omega arith
-      by n p z (inr (inl x)) = omega arith
-      by n p z (inr (inr x)) = omega arith
+  module _ (h : d .number ≡ 0) where
+    fine : (verdict limit r a ≡ accepted (placesOf (plainListing r a))) × (d .count ≡ length (placesOf (plainListing r a)))
+    fine = survey-fine r a s d q h
 
-      go : (v : Verdict) → verdict limit r a ≡ v → d ≡ directory s v → (afterCheck v e ≡ e) × (d .count ≡ length (plainListing r a))
-      go (refused n p) w z = absurd (by n p (sym (ap (λ (x : Directory). x .number) z) ∙ h) (no-other 256 r a n p w))
-      go (accepted ps) w z = (refl, ap (λ (x : Directory). x .count) z ∙ accepted-count r a ps w .0)
+    pub checked-fine : afterCheck (verdict limit r a) e ≡ e
+    checked-fine = rw (fine .0)
+
+    -- The lent array f has become g: the first of its places are those of the components.
+    module _ (f : List ℕ) {g : List ℕ} (w : g ≡ placesIn f (verdict limit r a)) where
+      stored : g ≡ placesOf (plainListing r a) ++ drop (length (placesOf (plainListing r a))) f
+      stored = w ∙ ap (placesIn f) (fine .0)
+
+      pub checked-room : d .count ≤ length g
+      checked-room = rw stored (simp length-append (omega (arith, fine .1)))
+
+      pub checked-places : Directed r a (take (d .count - 0) (drop 0 g))
+      checked-places =
+          let n : d .count - 0 ≡ length (placesOf (plainListing r a)) = sub-zero (d .count) ∙ fine .1 in
+          rw (stored, n) (take-at (placesOf (plainListing r a)) _ (length (placesOf (plainListing r a))) refl)
 
 -- What is to be written fits its slot, and the slot the region.
 pub record Ready (r name content : List ℕ) (x : Run) : Type 0 where
@@ -222,19 +248,22 @@ remove-ready r a name x b e =
         let i = slot-inside r a acc name z own in
         (y .1, rw (← y .0) (i .0), rw (← y .0) (i .1))
 
--- Replace and remove, by the slot that was found.
+-- The strict check's refusals come first, and then what the edit decides on an accepted region.
+pub decided-so : (e : Edit) (i : List ℕ) (g : Region) (name : List ℕ) (kind : ℕ) (content : List ℕ) → let r = bytesOf i g in
+    choice (g .start) (kindFor e r (g .align) name kind) (afterCheck (verdict limit r (g .align)) (chosen e r (g .align) name kind content))
+    ≡ decided e i g name kind content
+decided-so Add i g name kind content = refl
+decided-so Replace i g name kind content = refl
+decided-so Remove i g name kind content = refl
+
+-- Remove and replace, by the slot that was found.
+
+pub removed : (s : ℕ) (o : Option Slot) → removal (roomOf o) ≡ choice s (kindHeld o) (clearing o)
+unfolding clearing
+removed s none = refl
+removed s (some z) = refl
+
 module _ (s : ℕ) (o : Option Slot) where
-  pub cleared-10 : roomOf o ≡ Nowhere → Refuse (refusedBy 10) ≡ choice s (kindHeld o) (clearing o)
-  unfolding clearing
-  cleared-10 e = rw (slot-none o e)
-
-  pub cleared : (z : Space) → roomOf o ≡ Within z → Write z ≡ choice s (kindHeld o) (clearing o)
-  unfolding clearing
-  cleared z e = let (y, q, w) = slot-some o z e in go y q w
-    where
-      go : (y : Slot) → o ≡ some y → spaceOf (y .run) (y .entry .component .kind) ≡ z → Write z ≡ choice s (kindHeld o) (clearing o)
-      go y q w = rw (q, ← w)
-
   module _ (a : ℕ) (name content : List ℕ) where
     pub renewed-10 : roomOf o ≡ Nowhere → Refuse (refusedBy 10) ≡ choice s (kindHeld o) (renewing a name content o)
     unfolding renewing

@@ -1,4 +1,6 @@
-// The decisions of add, replace and remove over an image and a region (document 01, "Edits"; refusals 10 to 17). A decision reads the image, and answers the slot to write, or the refusal.
+// The decisions of add, replace and remove over an image and a region (document 01, "Edits"; refusals 10 to 17). A decision reads the image,
+// and answers the slot to write, or the refusal.
+use checker::MOST;
 use room::Room;
 use room::Space;
 use terms::Refusal;
@@ -7,16 +9,23 @@ ghost use mathlib.Core.Path.{_≡_};
 ghost use Prim.Native.Nat.{ℕ, _≤_};
 ghost use lib.ListN.{length};
 ghost use lib.Dec.{ltb};
-ghost use Rattle.walk.specs.Walk.{nextMagic, plainListing};
-ghost use Rattle.terms.specs.Terms.{bytesOf, refusedBy};
-ghost use Rattle.strict.specs.Strict.{limit};
-ghost use Rattle.edit.specs.Edit.{spanBytes, buries as buriesOf, slotOf, adding, renewing, clearing, toAdd, toReplace, toRemove};
-ghost use Rattle.decide.specs.Code.{lead as leadOf, kindHeld, kindOf, choice};
+ghost use Rattle.walk.specs.Walk.{nextMagic};
+ghost use Rattle.terms.specs.Terms.{refusedBy};
+ghost use Rattle.edit.specs.Edit.{spanBytes, buries as buriesOf};
+ghost use Rattle.room.specs.Room.{slotAmong};
+ghost use Rattle.decide.specs.Code.{lead as leadOf, Directed, choiceOf, removal, addChoice, replaceChoice, removeChoice, decided};
 
 // What an edit decides: the slot to write, or the refusal.
 pub enum Choice {
     Write(Space),
     Refuse(Refusal),
+}
+
+// The three edits.
+enum Edit {
+    Add,
+    Replace,
+    Remove,
 }
 
 // How far the first place at or after n lies from n.
@@ -71,25 +80,25 @@ fn refuse(number: u32) -> Choice
     Choice::Refuse(terms::refused(number))
 }
 
-// Add, on an accepted region of so many components: 14, 15, 13, 16, 17.
+// Add, on an accepted region whose components stand at the places ps: 14, 15, 13, 16, 17.
 fn choose_add(
     r: &[u8],
     align: usize,
-    count: usize,
+    ps: &[usize],
     name: &[u8],
     kind: u32,
     content: &[u8],
 ) -> Choice
-    requires { ⌜ count ≡ length (plainListing (now r) align) ⌝ }
-    ensures { λ c. ⌜ ((s : ℕ) → c ≡ choice s kind (adding limit (now (r .entry)) align (now (name .entry)) (spanBytes (now (name .entry)) kind (now (content .entry))) (plainListing (now (r .entry)) align))) ⌝ }
+    requires { ⌜ Directed (now r) align (now ps) ⌝ }
+    ensures { λ c. ⌜ ((s : ℕ) → c ≡ choiceOf Edit.Add s (now (r .entry)) align (now (name .entry)) kind (now (content .entry))) ⌝ }
 {
     if !component::name_fits(name) {
         return refuse(14);
     }
-    if room::used(r, align, name) {
+    if room::used(r, ps, name) {
         return refuse(15);
     }
-    if 256 <= count {
+    if MOST <= ps.len() {
         return refuse(13);
     }
     if buries(align, name, kind, content) {
@@ -99,18 +108,19 @@ fn choose_add(
     if 0xFFFFFFFF - offset < content.len() {
         return refuse(17);
     }
-    let x = room::free_run(r, align, offset + content.len(), kind);
+    let x = room::free_run(r, align, ps, offset + content.len(), kind);
     match x {
         Room::Within(z) => Choice::Write(z),
         Room::Nowhere => refuse(17),
     }
 }
 
-// Replace, on an accepted region: 10, 16, 17.
-fn choose_replace(r: &[u8], align: usize, name: &[u8], content: &[u8]) -> Choice
-    ensures { λ c. ⌜ ((s : ℕ) → c ≡ choice s (kindHeld (slotOf (length (now (r .entry))) (now (name .entry)) (plainListing (now (r .entry)) align))) (renewing align (now (name .entry)) (now (content .entry)) (slotOf (length (now (r .entry))) (now (name .entry)) (plainListing (now (r .entry)) align)))) ⌝ }
+// Replace, on such a region: 10, 16, 17.
+fn choose_replace(r: &[u8], align: usize, ps: &[usize], name: &[u8], content: &[u8]) -> Choice
+    requires { ⌜ Directed (now r) align (now ps) ⌝ }
+    ensures { λ c. ⌜ ((s k : ℕ) → c ≡ choiceOf Edit.Replace s (now (r .entry)) align (now (name .entry)) k (now (content .entry))) ⌝ }
 {
-    let x = room::slot_of(r, align, name);
+    let x = room::slot_of(r, ps, name);
     match x {
         Room::Nowhere => refuse(10),
         Room::Within(z) => {
@@ -129,65 +139,81 @@ fn choose_replace(r: &[u8], align: usize, name: &[u8], content: &[u8]) -> Choice
     }
 }
 
-// Remove, on an accepted region: 10.
-fn choose_remove(r: &[u8], align: usize, name: &[u8]) -> Choice
-    ensures { λ c. ⌜ ((s : ℕ) → c ≡ choice s (kindHeld (slotOf (length (now (r .entry))) (now (name .entry)) (plainListing (now (r .entry)) align))) (clearing (slotOf (length (now (r .entry))) (now (name .entry)) (plainListing (now (r .entry)) align)))) ⌝ }
+// Remove, by the places ps: 10.
+fn choose_remove(r: &[u8], ps: &[usize], name: &[u8]) -> Choice
+    ensures { λ c. ⌜ c ≡ removal (slotAmong (now (r .entry)) (now (name .entry)) (now (ps .entry))) ⌝ }
 {
-    let x = room::slot_of(r, align, name);
+    let x = room::slot_of(r, ps, name);
     match x {
         Room::Within(z) => Choice::Write(z),
         Room::Nowhere => refuse(10),
     }
 }
 
-// The decision of add on the region of an image.
-pub fn add(image: &[u8], region: Region, name: &[u8], kind: u32, content: &[u8]) -> Choice
-    ensures { λ c. ⌜ c ≡ choice (region .start) kind (toAdd limit (bytesOf (now (image .entry)) region) (region .align) (now (name .entry)) kind (now (content .entry))) ⌝ }
-    ensures kept { λ _. ⌜ (now (image .exit) ≡ now (image .entry)) × (now (name .exit) ≡ now (name .entry)) × (now (content .exit) ≡ now (content .entry)) ⌝ }
+// One of the three.
+fn choose(
+    edit: Edit,
+    r: &[u8],
+    align: usize,
+    ps: &[usize],
+    name: &[u8],
+    kind: u32,
+    content: &[u8],
+) -> Choice
+    requires { ⌜ Directed (now r) align (now ps) ⌝ }
+    ensures { λ c. ⌜ ((s : ℕ) → c ≡ choiceOf edit s (now (r .entry)) align (now (name .entry)) kind (now (content .entry))) ⌝ }
 {
-    let d = checker::check(image, region);
+    match edit {
+        Edit::Add => choose_add(r, align, ps, name, kind, content),
+        Edit::Replace => choose_replace(r, align, ps, name, content),
+        Edit::Remove => choose_remove(r, ps, name),
+    }
+}
+
+// The decision on the region of an image. The strict check's refusals come first, and the places that it stores serve what follows.
+fn decide(
+    edit: Edit,
+    image: &[u8],
+    region: Region,
+    name: &[u8],
+    kind: u32,
+    content: &[u8],
+) -> Choice
+    ensures { λ c. ⌜ c ≡ decided edit (now (image .entry)) region (now (name .entry)) kind (now (content .entry)) ⌝ }
+{
+    let mut places = [0usize; MOST];
+    let d = checker::survey(image, region, &mut places);
     if d.number != 0 {
         return Choice::Refuse(Refusal {
             number: d.number,
             place: d.place,
         });
     }
-    choose_add(
-        terms::bytes(image, region),
-        region.align,
-        d.count,
-        name,
-        kind,
-        content,
-    )
+    let n = d.count;
+    let r = terms::bytes(image, region);
+    choose(edit, r, region.align, &places[0..n], name, kind, content)
+}
+
+// The decision of add on the region of an image.
+pub fn add(image: &[u8], region: Region, name: &[u8], kind: u32, content: &[u8]) -> Choice
+    ensures { λ c. ⌜ c ≡ addChoice (now (image .entry)) region (now (name .entry)) kind (now (content .entry)) ⌝ }
+    ensures kept { λ _. ⌜ (now (image .exit) ≡ now (image .entry)) × (now (name .exit) ≡ now (name .entry)) × (now (content .exit) ≡ now (content .entry)) ⌝ }
+{
+    decide(Edit::Add, image, region, name, kind, content)
 }
 
 // The decision of replace on the region of an image.
 pub fn replace(image: &[u8], region: Region, name: &[u8], content: &[u8]) -> Choice
-    ensures { λ c. ⌜ c ≡ choice (region .start) (kindOf (bytesOf (now (image .entry)) region) (region .align) (now (name .entry))) (toReplace limit (bytesOf (now (image .entry)) region) (region .align) (now (name .entry)) (now (content .entry))) ⌝ }
+    ensures { λ c. ⌜ c ≡ replaceChoice (now (image .entry)) region (now (name .entry)) (now (content .entry)) ⌝ }
     ensures kept { λ _. ⌜ (now (image .exit) ≡ now (image .entry)) × (now (name .exit) ≡ now (name .entry)) × (now (content .exit) ≡ now (content .entry)) ⌝ }
 {
-    let d = checker::check(image, region);
-    if d.number != 0 {
-        return Choice::Refuse(Refusal {
-            number: d.number,
-            place: d.place,
-        });
-    }
-    choose_replace(terms::bytes(image, region), region.align, name, content)
+    decide(Edit::Replace, image, region, name, 0, content)
 }
 
 // The decision of remove on the region of an image.
 pub fn remove(image: &[u8], region: Region, name: &[u8]) -> Choice
-    ensures { λ c. ⌜ c ≡ choice (region .start) (kindOf (bytesOf (now (image .entry)) region) (region .align) (now (name .entry))) (toRemove limit (bytesOf (now (image .entry)) region) (region .align) (now (name .entry))) ⌝ }
+    ensures { λ c. ⌜ c ≡ removeChoice (now (image .entry)) region (now (name .entry)) ⌝ }
     ensures kept { λ _. ⌜ (now (image .exit) ≡ now (image .entry)) × (now (name .exit) ≡ now (name .entry)) ⌝ }
 {
-    let d = checker::check(image, region);
-    if d.number != 0 {
-        return Choice::Refuse(Refusal {
-            number: d.number,
-            place: d.place,
-        });
-    }
-    choose_remove(terms::bytes(image, region), region.align, name)
+    decide(Edit::Remove, image, region, name, 0, b"")
 }

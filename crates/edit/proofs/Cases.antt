@@ -13,7 +13,7 @@ use Rattle.component.specs.Component.{magic, startsWithMagic, componentOf, head
 use Rattle.number.specs.Lists.{any, keep, noTwo}
 use Rattle.walk.specs.Walk.{Entry, placesBelow, places, carries, buried, plain, orElse, first, onward, step, follow, steps, listingFrom, plainListing}
 use Rattle.lookup.specs.Lookup.{bears}
-use Rattle.strict.specs.Strict.{takes, stray, strays, Accepted}
+use Rattle.strict.specs.Strict.{limit, takes, stray, strays, Accepted}
 use Rattle.strict.specs.Slots.{start}
 use Rattle.edit.specs.Edit.{fieldSize, offsetFor, headerBytes, fieldBytes, spanBytes, buries, runs, lowest, slotOf, adding, renewing, clearing, Reply, refusal, done, Outcome, carriedOut, add, replace, remove}
 use Rattle.edit.proofs.Theorems.{add-on, replace-on, remove-on}
@@ -57,18 +57,18 @@ accepted-16 = record { all-taken = refl; few = lit≤ tt; told-apart = refl }
 
 -- An edit of bench image A's region, from its listing.
 
-adds : (name : List ℕ) (kind : ℕ) (put : List ℕ) → add 256 regionA 64 name kind put ≡ carriedOut regionA (adding 256 regionA 64 name (spanBytes name kind put) listA)
-adds name kind put = add-on regionA 64 accepted-64 name kind put ∙ ap (λ (l : List Entry). carriedOut regionA (adding 256 regionA 64 name (spanBytes name kind put) l)) listed-64
+adds : (name : List ℕ) (kind : ℕ) (put : List ℕ) → add limit regionA 64 name kind put ≡ carriedOut regionA (adding limit regionA 64 name (spanBytes name kind put) listA)
+adds name kind put = add-on regionA 64 accepted-64 name kind put ∙ ap (λ (l : List Entry). carriedOut regionA (adding limit regionA 64 name (spanBytes name kind put) l)) listed-64
 
-replaces : (name put : List ℕ) → replace 256 regionA 64 name put ≡ carriedOut regionA (renewing 64 name put (slotOf (length regionA) name listA))
+replaces : (name put : List ℕ) → replace limit regionA 64 name put ≡ carriedOut regionA (renewing 64 name put (slotOf (length regionA) name listA))
 replaces name put = replace-on regionA 64 accepted-64 name put ∙ ap (λ (l : List Entry). carriedOut regionA (renewing 64 name put (slotOf (length regionA) name l))) listed-64
 
-removes : (name : List ℕ) → remove 256 regionA 64 name ≡ carriedOut regionA (clearing (slotOf (length regionA) name listA))
+removes : (name : List ℕ) → remove limit regionA 64 name ≡ carriedOut regionA (clearing (slotOf (length regionA) name listA))
 removes name = remove-on regionA 64 accepted-64 name ∙ ap (λ (l : List Entry). carriedOut regionA (clearing (slotOf (length regionA) name l))) listed-64
 
 -- At align 16 the name xxxxxxxxLARCHIVE has the magic at byte 32.
-names : (name : List ℕ) → add 256 regionA 16 name 0x50 [] ≡ carriedOut regionA (adding 256 regionA 16 name (spanBytes name 0x50 []) listA)
-names name = add-on regionA 16 accepted-16 name 0x50 [] ∙ ap (λ (l : List Entry). carriedOut regionA (adding 256 regionA 16 name (spanBytes name 0x50 []) l)) listed-16
+names : (name : List ℕ) → add limit regionA 16 name 0x50 [] ≡ carriedOut regionA (adding limit regionA 16 name (spanBytes name 0x50 []) listA)
+names name = add-on regionA 16 accepted-16 name 0x50 [] ∙ ap (λ (l : List Entry). carriedOut regionA (adding limit regionA 16 name (spanBytes name 0x50 []) l)) listed-16
 
 -- One answer, and the others.
 
@@ -80,18 +80,18 @@ and p q = rw (p, q)
 
 -- The bench cases, as one list of what is answered.
 pub bench :
-    replace 256 regionA 64 (cal 0x32) (replicate 152 0) .reply
-    ∷ replace 256 regionA 64 (cal 0x32) (replicate 153 0) .reply
-    ∷ add 256 regionA 64 log 0x50 (replicate 2776 0) .reply
-    ∷ add 256 regionA 64 log 0x50 (replicate 2777 0) .reply
-    ∷ add 256 regionA 64 log 0x50 (hidingAt 24) .reply
-    ∷ add 256 regionA 64 log 0x50 (hidingAt 25) .reply
-    ∷ remove 256 regionA 64 (cal 0x33) .reply
-    ∷ remove 256 regionA 64 log .reply
-    ∷ replace 256 regionA 64 log [] .reply
-    ∷ add 256 regionA 64 (cal 0x32) 0x50 [] .reply
-    ∷ add 256 regionA 64 [] 0x50 [] .reply
-    ∷ add 256 regionA 16 (replicate 8 0x78 ++ magic) 0x50 [] .reply
+    replace limit regionA 64 (cal 0x32) (replicate 152 0) .reply
+    ∷ replace limit regionA 64 (cal 0x32) (replicate 153 0) .reply
+    ∷ add limit regionA 64 log 0x50 (replicate 2776 0) .reply
+    ∷ add limit regionA 64 log 0x50 (replicate 2777 0) .reply
+    ∷ add limit regionA 64 log 0x50 (hidingAt 24) .reply
+    ∷ add limit regionA 64 log 0x50 (hidingAt 25) .reply
+    ∷ remove limit regionA 64 (cal 0x33) .reply
+    ∷ remove limit regionA 64 log .reply
+    ∷ replace limit regionA 64 log [] .reply
+    ∷ add limit regionA 64 (cal 0x32) 0x50 [] .reply
+    ∷ add limit regionA 64 [] 0x50 [] .reply
+    ∷ add limit regionA 16 (replicate 8 0x78 ++ magic) 0x50 [] .reply
     ∷ []
     ≡ done 0 ∷ refusal 17 0 ∷ done 256 ∷ refusal 17 0 ∷ refusal 16 0 ∷ done 256 ∷ done 192 ∷ refusal 10 0 ∷ refusal 10 0 ∷ refusal 15 0 ∷ refusal 14 0 ∷ refusal 16 0 ∷ []
 unfolding any beBytes eqBytes magic startsWithMagic all nameTests nameFits placesBelow places carries buried onward bears start fieldSize headerBytes fieldBytes spanBytes buries runs lowest slotOf adding renewing clearing carriedOut larchive cal head slot0 slot192 region log hidingAt here listA

@@ -12,7 +12,7 @@ use Rattle.component.specs.Names.{nameFits}
 use Rattle.number.specs.Lists.{any}
 use Rattle.walk.specs.Walk.{Entry, plainListing}
 use Rattle.lookup.specs.Lookup.{bears}
-use Rattle.strict.specs.Strict.{Accepted, Verdict, refused, accepted, verdict, placesOf}
+use Rattle.strict.specs.Strict.{limit, Accepted, Verdict, refused, accepted, verdict, placesOf}
 use Rattle.strict.proofs.Verdicts.{accepted-exactly}
 use Rattle.edit.specs.Edit.{Run, holds, runs, lowest, Slot, slotOf, buries, spanBytes, Decision, refuse, write, afterCheck, adding, renewing, clearing, filled, done, carriedOut, Open, Addable}
 use Rattle.edit.specs.Table.{decisionNumber}
@@ -57,14 +57,14 @@ does r (write x s) p e = record { run = x; bytes = s; writes = refl; place = (cc
 
 -- The strict check comes first: 12, 13, 11.
 module _ (r : List ℕ) (a : ℕ) (d : Decision) where
-  pub check-accepted : Accepted r a → afterCheck (verdict 256 r a) d ≡ d
+  pub check-accepted : Accepted r a → afterCheck (verdict limit r a) d ≡ d
   check-accepted acc = rw (accepted-exactly r a (placesOf (plainListing r a)) .1 (acc, refl))
 
   -- An edit is done on accepted regions only.
-  pub check-write : (x : Run) (s : List ℕ) → afterCheck (verdict 256 r a) d ≡ write x s → Accepted r a × (d ≡ write x s)
-  check-write x s e = go (verdict 256 r a) refl e
+  pub check-write : (x : Run) (s : List ℕ) → afterCheck (verdict limit r a) d ≡ write x s → Accepted r a × (d ≡ write x s)
+  check-write x s e = go (verdict limit r a) refl e
     where
-      go : (v : Verdict) → verdict 256 r a ≡ v → afterCheck v d ≡ write x s → Accepted r a × (d ≡ write x s)
+      go : (v : Verdict) → verdict limit r a ≡ v → afterCheck v d ≡ write x s → Accepted r a × (d ≡ write x s)
       go (refused n p) q e′ = absurd (not-write n p x s refl e′)
       go (accepted ps) q e′ = (accepted-exactly r a ps .0 q .0, e′)
 

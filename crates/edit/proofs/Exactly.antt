@@ -21,13 +21,13 @@ use Rattle.walk.specs.Walk.{Entry, end, plainListing, guardedListing, Place}
 use Rattle.lookup.specs.Lookup.{bears, gives, Bearer, Nobody}
 use Rattle.lookup.proofs.Answers.{lookup-member}
 use Rattle.lookup.proofs.Bearers.{bears-name, name-bears}
-use Rattle.strict.specs.Strict.{Accepted, Verdict, refused, accepted, verdict}
+use Rattle.strict.specs.Strict.{limit, Accepted, Verdict, refused, accepted, verdict}
 use Rattle.strict.specs.Table.{checkRows, verdictNumber}
 use Rattle.strict.proofs.Accepting.{walks-agree}
 use Rattle.strict.proofs.Bearing.{lone}
 use Rattle.strict.proofs.Verdicts.{accepted-exactly, no-other}
 use Rattle.strict.proofs.Exactly.{magic-words, check-exactly}
-use Rattle.edit.specs.Edit.{Free, Run, holds, runs, Slot, slotOf, freeRuns, lowest, buries, spanBytes, Decision, refuse, write, afterCheck, adding, renewing, clearing, toAdd, toReplace, toRemove, done, add, remove, putIn, without, HeldAt, Open}
+use Rattle.edit.specs.Edit.{Free, Run, holds, Slot, slotOf, freeRuns, lowest, buries, spanBytes, Decision, refuse, write, afterCheck, adding, renewing, clearing, toAdd, toReplace, toRemove, done, add, remove, putIn, without, HeldAt, Open}
 use Rattle.edit.specs.Table.{UnfitName, HoldsMagic, SlotShort, addRows, replaceRows, removeRows, decisionNumber}
 use Rattle.edit.proofs.Written.{length-span}
 use Rattle.edit.proofs.Lists.{keep-put}
@@ -123,18 +123,18 @@ module _ (r : List ℕ) (a : ℕ) (pos : 0 < a) (small : length r ≤ 0xFFFFFFFF
 
 -- An edit whose own decision is d, after the strict check.
 module _ (r : List ℕ) (a : ℕ) (pos : 0 < a) (rows : List Row) (d : Decision) (own : Accepted r a → Given rows (decisionNumber d)) where
-  pub after-check : Given (checkRows 256 r a ++ rows) (decisionNumber (afterCheck (verdict 256 r a) d))
-  after-check = go (verdict 256 r a) refl (check-exactly 256 r a pos (verdictNumber (verdict 256 r a)) .0 refl)
+  pub after-check : Given (checkRows limit r a ++ rows) (decisionNumber (afterCheck (verdict limit r a) d))
+  after-check = go (verdict limit r a) refl (check-exactly limit r a pos (verdictNumber (verdict limit r a)) .0 refl)
     where
       some-number : (n p : ℕ) → (n ≡ 12) ⊎ ((n ≡ 13) × (p ≡ 0)) ⊎ ((n ≡ 11) × (p ≡ 0)) → n ≡ 0 → ⊥
       some-number n p (inl e) z = omega arith
       some-number n p (inr (inl e)) z = omega (arith, e .0)
       some-number n p (inr (inr e)) z = omega (arith, e .0)
 
-      go : (v : Verdict) → verdict 256 r a ≡ v → Given (checkRows 256 r a) (verdictNumber v)
-          → Given (checkRows 256 r a ++ rows) (decisionNumber (afterCheck v d))
-      go (refused n p) e g = given-here (checkRows 256 r a) rows n (some-number n p (no-other 256 r a n p e)) g
-      go (accepted ps) e g = given-later (checkRows 256 r a) rows (decisionNumber d) refl g (own (accepted-exactly r a ps .0 e .0))
+      go : (v : Verdict) → verdict limit r a ≡ v → Given (checkRows limit r a) (verdictNumber v)
+          → Given (checkRows limit r a ++ rows) (decisionNumber (afterCheck v d))
+      go (refused n p) e g = given-here (checkRows limit r a) rows n (some-number n p (no-other limit r a n p e)) g
+      go (accepted ps) e g = given-later (checkRows limit r a) rows (decisionNumber d) refl g (own (accepted-exactly r a ps .0 e .0))
 
 -- The definitions in the paper's words.
 
@@ -217,8 +217,8 @@ module _ (r : List ℕ) (a : ℕ) (pos : 0 < a) (small : length r ≤ 0xFFFFFFFF
     abbrev s : List ℕ
     s = spanBytes name kind content
 
-    add-own : Accepted r a → Given (addRows 256 r a name kind content) (decisionNumber (adding 256 r a name s L))
-    add-own acc = go (add-case 256 r a name s L)
+    add-own : Accepted r a → Given (addRows limit r a name kind content) (decisionNumber (adding limit r a name s L))
+    add-own acc = go (add-case limit r a name s L)
       where
         fit : nameFits name ≡ true → UnfitName name → ⊥
         fit e u = true≢false (sym e ∙ name-words name .1 u)
@@ -226,7 +226,7 @@ module _ (r : List ℕ) (a : ℕ) (pos : 0 < a) (small : length r ≤ 0xFFFFFFFF
         room : (lowest (length s) (freeRuns r a) ≡ none) ↔ ((q : ℕ) → Place a q → Free r a q (length s) → ⊥)
         room = no-free r a pos small acc (length s) (omega (arith, length-span name kind content))
 
-        go : AddCase 256 r a name s L → Given (addRows 256 r a name kind content) (decisionNumber (adding 256 r a name s L))
+        go : AddCase limit r a name s L → Given (addRows limit r a name kind content) (decisionNumber (adding limit r a name s L))
         go (unfit p v) = rw v (inl (name-words name .0 p, refl))
         go (used p q v) = rw v (inr (fit p, inl (bearer-words .0 q, refl)))
         go (full p q u v) = rw v (inr (fit p, inr (denied bearer-words q, inl (u, refl))))
@@ -241,8 +241,8 @@ module _ (r : List ℕ) (a : ℕ) (pos : 0 < a) (small : length r ≤ 0xFFFFFFFF
         ))
 
     -- The number of an add: the strict check's, then its own; 0 where it is done.
-    pub add-given : Given (checkRows 256 r a ++ addRows 256 r a name kind content) (decisionNumber (toAdd 256 r a name kind content))
-    add-given = after-check r a pos (addRows 256 r a name kind content) (adding 256 r a name s L) add-own
+    pub add-given : Given (checkRows limit r a ++ addRows limit r a name kind content) (decisionNumber (toAdd limit r a name kind content))
+    add-given = after-check r a pos (addRows limit r a name kind content) (adding limit r a name s L) add-own
 
   -- Replace.
   module _ (content : List ℕ) where
@@ -315,7 +315,7 @@ module _ (r : List ℕ) (a : ℕ) (pos : 0 < a) (small : length r ≤ 0xFFFFFFFF
             fits : (t : Entry) × Bearer L name t × SlotShort r a t (length (spanFor t)) → ⊥
             fits (t, k, m) = true≢false (sym h ∙ short z q (length (spanFor (z .entry))) .1 (subst (λ (u : Entry). SlotShort r a u (length (spanFor u))) (only z q t k) m))
 
-    pub replace-given : Given (checkRows 256 r a ++ replaceRows r a name content) (decisionNumber (toReplace 256 r a name content))
+    pub replace-given : Given (checkRows limit r a ++ replaceRows r a name content) (decisionNumber (toReplace limit r a name content))
     replace-given = after-check r a pos (replaceRows r a name content) (renewing a name content (slotOf (length r) name L)) replace-own
 
   -- Remove.
@@ -326,26 +326,26 @@ module _ (r : List ℕ) (a : ℕ) (pos : 0 < a) (small : length r ≤ 0xFFFFFFFF
       go (missing q v) = rw v (inl ((λ t b. denied bearer-words (slot-borne (length r) name L .0 q) (t, b)), refl))
       go (clears z q v) = let m = slot-member (length r) name L z q in rw v (inr ((λ h. h (z .entry) (m .0, bears-name name (z .entry) (m .1))), refl))
 
-  pub remove-given : Given (checkRows 256 r a ++ removeRows r a name) (decisionNumber (toRemove 256 r a name))
+  pub remove-given : Given (checkRows limit r a ++ removeRows r a name) (decisionNumber (toRemove limit r a name))
   remove-given = after-check r a pos (removeRows r a name) (clearing (slotOf (length r) name L)) (λ acc. remove-own)
 
 remove-does : (r : List ℕ) (a : ℕ) (name : List ℕ) → Accepted r a → (z : Slot) → slotOf (length r) name (plainListing r a) ≡ some z
-    → remove 256 r a name .reply ≡ done (z .run .from)
+    → remove limit r a name .reply ≡ done (z .run .from)
 unfolding remove clearing
 remove-does r a name acc z e = is-done r _ (z .run) [] (check-accepted r a (clearing (slotOf (length r) name (plainListing r a))) acc ∙ rw e)
 
 -- What add wrote and remove took away again leaves both listings as they were.
 pub record Undone (r : List ℕ) (a p : ℕ) (name r′ : List ℕ) : Type 0 where
-  pub done-again : remove 256 r′ a name .reply ≡ done p
-  pub guardedly : guardedListing (remove 256 r′ a name .bytes) a ≡ guardedListing r a
-  pub plainly : plainListing (remove 256 r′ a name .bytes) a ≡ plainListing r a
+  pub done-again : remove limit r′ a name .reply ≡ done p
+  pub guardedly : guardedListing (remove limit r′ a name .bytes) a ≡ guardedListing r a
+  pub plainly : plainListing (remove limit r′ a name .bytes) a ≡ plainListing r a
 
 without-put : (t : Entry) (l : List Entry) → ((u : Entry) → List·Memᴰ u l → u .place ≡ t .place → ⊥) → without (t .place) (putIn t l) ≡ l
 without-put t l h = keep-put (λ u. not (eqb (u .place) (t .place))) t l (ap not (eq-eqb (t .place) (t .place) refl))
     ∙ keep-all (λ u. not (eqb (u .place) (t .place))) l (λ u m. ap not (ne-eqb (u .place) (t .place) (h u m)))
 
-pub add-undone : (r : List ℕ) (a : ℕ) → 8 ≤ a → (name : List ℕ) (kind : ℕ) (put : List ℕ) (p : ℕ) → kind < 256 ^ 4 → add 256 r a name kind put .reply ≡ done p
-    → Undone r a p name (add 256 r a name kind put .bytes)
+pub add-undone : (r : List ℕ) (a : ℕ) → 8 ≤ a → (name : List ℕ) (kind : ℕ) (put : List ℕ) (p : ℕ) → kind < 256 ^ 4 → add limit r a name kind put .reply ≡ done p
+    → Undone r a p name (add limit r a name kind put .bytes)
 add-undone r a big name kind put p typed e = go _ (add-done r a big name kind put p typed e)
   where
     go : (r′ : List ℕ) → Added r a name kind put p r′ → Undone r a p name r′
@@ -354,18 +354,18 @@ add-undone r a big name kind put p typed e = go _ (add-done r a big name kind pu
         borne : List·Memᴰ (at p name kind put) (plainListing r′ a) × (bears name (at p name kind put) ≡ true)
         borne = lookup-member false r′ a name (at p name kind put) (d .finds .plainly)
 
-        again : (q : ℕ) → remove 256 r′ a name .reply ≡ done q → Removed r′ a name q (remove 256 r′ a name .bytes)
+        again : (q : ℕ) → remove limit r′ a name .reply ≡ done q → Removed r′ a name q (remove limit r′ a name .bytes)
         again q f = remove-done r′ a big name q f
 
-        same : (q : ℕ) → Removed r′ a name q (remove 256 r′ a name .bytes) → q ≡ p
+        same : (q : ℕ) → Removed r′ a name q (remove limit r′ a name .bytes) → q ≡ p
         same q m =
             let g : gives (m .old) ≡ gives (at p name kind put) = sym (m .was) ∙ d .finds .guardedly in
             let o : m .old ≡ at p name kind put = cc in
             sym (m .there) ∙ ap (λ (t : Entry). t .place) o
 
-        finish : (q : ℕ) → q ≡ p → remove 256 r′ a name .reply ≡ done q → Removed r′ a name q (remove 256 r′ a name .bytes) → Undone r a p name r′
+        finish : (q : ℕ) → q ≡ p → remove limit r′ a name .reply ≡ done q → Removed r′ a name q (remove limit r′ a name .bytes) → Undone r a p name r′
         finish q eq f m =
-            let l : guardedListing (remove 256 r′ a name .bytes) a ≡ guardedListing r a =
+            let l : guardedListing (remove limit r′ a name .bytes) a ≡ guardedListing r a =
             m .guardedly ∙ rw (eq, d .guardedly) (without-put (at p name kind put) (guardedListing r a) (d .fresh)) in
             record { done-again = f ∙ ap done eq; guardedly = l; plainly = walks-agree _ a (m .accepted) ∙ l ∙ sym (walks-agree r a (add-accepted r a name kind put p e)) }
 

@@ -15,7 +15,7 @@ use Rattle.walk.specs.Walk.{Entry, end, carries, plainListing, guardedListing}
 use Rattle.lookup.specs.Lookup.{refused, gives, only, foremost, bears, plainLookup, guardedLookup}
 use Rattle.walk.proofs.Picks.{guarded-carries}
 use Rattle.lookup.proofs.Bearers.{bears-name}
-use Rattle.strict.specs.Strict.{toldApart, Accepted, Sound}
+use Rattle.strict.specs.Strict.{limit, toldApart, Accepted, Sound}
 use Rattle.strict.specs.Slots.{hit, Spoilt}
 use Rattle.number.proofs.Tested.{keep-same, keep-comm, keep-all, length-keep, two-keep}
 use Rattle.strict.proofs.Frames.{mem-guarded, still-sound}
@@ -96,7 +96,7 @@ pub record Removed (r : List ℕ) (a : ℕ) (name : List ℕ) (p : ℕ) (r′ : 
   -- The whole slot is 0xFF.
   pub ones : (i : ℕ) → hit (λ q. eqb q p) r a i ≡ true → getD r′ i 0 ≡ 255
 
-accept : (r : List ℕ) (a : ℕ) → 0 < a → Sound r a → length (guardedListing r a) ≤ 256 → toldApart (guardedListing r a) ≡ true → Accepted r a
+accept : (r : List ℕ) (a : ℕ) → 0 < a → Sound r a → length (guardedListing r a) ≤ limit → toldApart (guardedListing r a) ≡ true → Accepted r a
 accept r a pos sound few apart = accepted-context-free r a pos .1 (sound, few, apart)
 
 find : (r′ : List ℕ) (a : ℕ) → Accepted r′ a → (name : List ℕ) (t : Entry) → t .component .name ≡ name → List·Memᴰ t (guardedListing r′ a) → Finds r′ a name t
@@ -116,7 +116,7 @@ other r r′ a acc acc′ name same c = record {
 }
 
 -- Add, into a free run.
-module _ (r : List ℕ) (a : ℕ) (big : 8 ≤ a) (acc : Accepted r a) (name : List ℕ) (kind : ℕ) (put : List ℕ) (typed : kind < 256 ^ 4) (ok : Addable 256 a name (spanBytes name kind put) (plainListing r a))
+module _ (r : List ℕ) (a : ℕ) (big : 8 ≤ a) (acc : Accepted r a) (name : List ℕ) (kind : ℕ) (put : List ℕ) (typed : kind < 256 ^ 4) (ok : Addable limit a name (spanBytes name kind put) (plainListing r a))
     (x : Run) (low : lowest (length (spanBytes name kind put)) (freeRuns r a) ≡ some x) where
   abbrev pos : 0 < a
   pos = omega arith

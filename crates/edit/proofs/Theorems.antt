@@ -21,7 +21,7 @@ use Rattle.walk.proofs.Places.{mem-places}
 use Rattle.walk.proofs.Picks.{carries-fits, buried-false}
 use Rattle.walk.proofs.Members.{given}
 use Rattle.lookup.proofs.Bearers.{bears-name}
-use Rattle.strict.specs.Strict.{Accepted, verdict}
+use Rattle.strict.specs.Strict.{limit, Accepted, verdict}
 use Rattle.strict.specs.Slots.{start}
 use Rattle.number.proofs.Tested.{any-true}
 use Rattle.edit.specs.Edit.{Bytes, Run, holds, Slot, slotOf, freeRuns, lowest, buries, spanBytes, filled, write, afterCheck, adding, renewing, clearing, done, carriedOut, add, replace, remove, Addable}
@@ -86,18 +86,18 @@ buries-exactly a pos s = (only, λ h. of (h .0) (h .1) (h .2) (h .3) (buried s a
 module _ (r : List ℕ) (a : ℕ) where
   -- An edit that is done: the strict check still accepts, both lookups, every other name, both listings, the bytes outside the slot.
 
-  pub add-done : 8 ≤ a → (name : List ℕ) (kind : ℕ) (put : List ℕ) (p : ℕ) → kind < 256 ^ 4 → add 256 r a name kind put .reply ≡ done p → Added r a name kind put p (add 256 r a name kind put .bytes)
+  pub add-done : 8 ≤ a → (name : List ℕ) (kind : ℕ) (put : List ℕ) (p : ℕ) → kind < 256 ^ 4 → add limit r a name kind put .reply ≡ done p → Added r a name kind put p (add limit r a name kind put .bytes)
   unfolding add
   add-done big name kind put p typed e =
-      let d = does r (afterCheck (verdict 256 r a) (adding 256 r a name (spanBytes name kind put) (plainListing r a))) p e in
-      let f = check-write r a (adding 256 r a name (spanBytes name kind put) (plainListing r a)) (d .run) (d .bytes) (d .writes) in
-      go (f .0) (add-case 256 r a name (spanBytes name kind put) (plainListing r a)) (d .run) (d .bytes) (f .1) (d .place) _ (d .after)
+      let d = does r (afterCheck (verdict limit r a) (adding limit r a name (spanBytes name kind put) (plainListing r a))) p e in
+      let f = check-write r a (adding limit r a name (spanBytes name kind put) (plainListing r a)) (d .run) (d .bytes) (d .writes) in
+      go (f .0) (add-case limit r a name (spanBytes name kind put) (plainListing r a)) (d .run) (d .bytes) (f .1) (d .place) _ (d .after)
     where
-      by : Accepted r a → Addable 256 a name (spanBytes name kind put) (plainListing r a) → (y : Run) → lowest (length (spanBytes name kind put)) (freeRuns r a) ≡ some y
+      by : Accepted r a → Addable limit a name (spanBytes name kind put) (plainListing r a) → (y : Run) → lowest (length (spanBytes name kind put)) (freeRuns r a) ≡ some y
           → (x : Run) (s : List ℕ) → y ≡ x → spanBytes name kind put ≡ s → x .from ≡ p → (r′ : List ℕ) → r′ ≡ filled r x s → Added r a name kind put p r′
       by acc ok y low x s u b q r′ h = rw (h, ← b, ← q, ← u) (added r a big acc name kind put typed ok y low)
 
-      go : Accepted r a → AddCase 256 r a name (spanBytes name kind put) (plainListing r a) → (x : Run) (s : List ℕ) → adding 256 r a name (spanBytes name kind put) (plainListing r a) ≡ write x s
+      go : Accepted r a → AddCase limit r a name (spanBytes name kind put) (plainListing r a) → (x : Run) (s : List ℕ) → adding limit r a name (spanBytes name kind put) (plainListing r a) ≡ write x s
           → x .from ≡ p → (r′ : List ℕ) → r′ ≡ filled r x s → Added r a name kind put p r′
       go acc (unfit u v) x s w q r′ h = absurd (not-write 14 0 x s v w)
       go acc (used u u₂ v) x s w q r′ h = absurd (not-write 15 0 x s v w)
@@ -106,10 +106,10 @@ module _ (r : List ℕ) (a : ℕ) where
       go acc (nowhere u u₂ v) x s w q r′ h = absurd (not-write 17 0 x s v w)
       go acc (placed y ok low v) x s w q r′ h = let z = same-write v w in by acc ok y low x s (z .0) (z .1) q r′ h
 
-  pub replace-done : 8 ≤ a → Bytes r → (name put : List ℕ) (p : ℕ) → replace 256 r a name put .reply ≡ done p → Replaced r a name put p (replace 256 r a name put .bytes)
+  pub replace-done : 8 ≤ a → Bytes r → (name put : List ℕ) (p : ℕ) → replace limit r a name put .reply ≡ done p → Replaced r a name put p (replace limit r a name put .bytes)
   unfolding replace
   replace-done big bs name put p e =
-      let d = does r (afterCheck (verdict 256 r a) (renewing a name put (slotOf (length r) name (plainListing r a)))) p e in
+      let d = does r (afterCheck (verdict limit r a) (renewing a name put (slotOf (length r) name (plainListing r a)))) p e in
       let f = check-write r a (renewing a name put (slotOf (length r) name (plainListing r a))) (d .run) (d .bytes) (d .writes) in
       go (f .0) (renew-case a (length r) name put (plainListing r a)) (d .run) (d .bytes) (f .1) (d .place) _ (d .after)
     where
@@ -129,10 +129,10 @@ module _ (r : List ℕ) (a : ℕ) where
       go acc (long z u u₂ u₃ v) x s w q r′ h = absurd (not-write 17 0 x s v w)
       go acc (fitting z own clean held v) x s w q r′ h = let y = same-write v w in by acc z own clean held x s (y .0) (y .1) q r′ h
 
-  pub remove-done : 8 ≤ a → (name : List ℕ) (p : ℕ) → remove 256 r a name .reply ≡ done p → Removed r a name p (remove 256 r a name .bytes)
+  pub remove-done : 8 ≤ a → (name : List ℕ) (p : ℕ) → remove limit r a name .reply ≡ done p → Removed r a name p (remove limit r a name .bytes)
   unfolding remove
   remove-done big name p e =
-      let d = does r (afterCheck (verdict 256 r a) (clearing (slotOf (length r) name (plainListing r a)))) p e in
+      let d = does r (afterCheck (verdict limit r a) (clearing (slotOf (length r) name (plainListing r a)))) p e in
       let f = check-write r a (clearing (slotOf (length r) name (plainListing r a))) (d .run) (d .bytes) (d .writes) in
       go (f .0) (clear-case (length r) name (plainListing r a)) (d .run) (d .bytes) (f .1) (d .place) _ (d .after)
     where
@@ -145,22 +145,22 @@ module _ (r : List ℕ) (a : ℕ) where
       go acc (clears z own v) x s w q r′ h = let y = same-write v w in by acc z own x s (y .0) (y .1) q r′ h
 
   -- An add is done on accepted regions only.
-  pub add-accepted : (name : List ℕ) (kind : ℕ) (put : List ℕ) (p : ℕ) → add 256 r a name kind put .reply ≡ done p → Accepted r a
+  pub add-accepted : (name : List ℕ) (kind : ℕ) (put : List ℕ) (p : ℕ) → add limit r a name kind put .reply ≡ done p → Accepted r a
   unfolding add
   add-accepted name kind put p e =
-      let d = does r (afterCheck (verdict 256 r a) (adding 256 r a name (spanBytes name kind put) (plainListing r a))) p e in
-      check-write r a (adding 256 r a name (spanBytes name kind put) (plainListing r a)) (d .run) (d .bytes) (d .writes) .0
+      let d = does r (afterCheck (verdict limit r a) (adding limit r a name (spanBytes name kind put) (plainListing r a))) p e in
+      check-write r a (adding limit r a name (spanBytes name kind put) (plainListing r a)) (d .run) (d .bytes) (d .writes) .0
 
   -- On an accepted region an edit comes to its own tests.
 
-  pub add-on : Accepted r a → (name : List ℕ) (kind : ℕ) (put : List ℕ) → add 256 r a name kind put ≡ carriedOut r (adding 256 r a name (spanBytes name kind put) (plainListing r a))
+  pub add-on : Accepted r a → (name : List ℕ) (kind : ℕ) (put : List ℕ) → add limit r a name kind put ≡ carriedOut r (adding limit r a name (spanBytes name kind put) (plainListing r a))
   unfolding add
-  add-on acc name kind put = ap (carriedOut r) (check-accepted r a (adding 256 r a name (spanBytes name kind put) (plainListing r a)) acc)
+  add-on acc name kind put = ap (carriedOut r) (check-accepted r a (adding limit r a name (spanBytes name kind put) (plainListing r a)) acc)
 
-  pub replace-on : Accepted r a → (name put : List ℕ) → replace 256 r a name put ≡ carriedOut r (renewing a name put (slotOf (length r) name (plainListing r a)))
+  pub replace-on : Accepted r a → (name put : List ℕ) → replace limit r a name put ≡ carriedOut r (renewing a name put (slotOf (length r) name (plainListing r a)))
   unfolding replace
   replace-on acc name put = ap (carriedOut r) (check-accepted r a (renewing a name put (slotOf (length r) name (plainListing r a))) acc)
 
-  pub remove-on : Accepted r a → (name : List ℕ) → remove 256 r a name ≡ carriedOut r (clearing (slotOf (length r) name (plainListing r a)))
+  pub remove-on : Accepted r a → (name : List ℕ) → remove limit r a name ≡ carriedOut r (clearing (slotOf (length r) name (plainListing r a)))
   unfolding remove
   remove-on acc name = ap (carriedOut r) (check-accepted r a (clearing (slotOf (length r) name (plainListing r a))) acc)

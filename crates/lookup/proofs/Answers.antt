@@ -9,7 +9,7 @@ use Rattle.number.proofs.Tested.{mem-keep}
 use Rattle.walk.specs.Walk.{Entry, pickOf, listing, plainListing, guardedListing, takenOf}
 use Rattle.lookup.specs.Lookup.{Answer, refused, gives, bears, foremost, only, lookupOf, found}
 use Rattle.walk.specs.declared.Taken.{Taken}
-use Rattle.lookup.specs.declared.Found.the-variants.{At, Refused}
+use Rattle.lookup.specs.declared.Found.the-variants.{At}
 
 -- The first of a list is one of it.
 pub first-member : (l : List Entry) (e : Entry) → foremost l ≡ gives e → List·Memᴰ e l
@@ -34,7 +34,3 @@ lookup-member false r a name e q = mem-keep (bears name) (plainListing r a) e (f
 pub found-some : (r : List ℕ) (a : ℕ) (o : Answer) (t : Taken) → found r a o ≡ At t → (e : Entry) × (o ≡ gives e) × (takenOf r a e ≡ t)
 found-some r a (refused n) t q = let z : _≡_ {A = ℕ} 0 1 = cc in absurd (omega arith)
 found-some r a (gives e) t q = (e, refl, (cc))
-
-pub found-none : (r : List ℕ) (a : ℕ) (o : Answer) (n : ℕ) → found r a o ≡ Refused n → o ≡ refused n
-found-none r a (refused m) n q = cc
-found-none r a (gives e) n q = let z : _≡_ {A = ℕ} 0 1 = cc in absurd (omega arith)

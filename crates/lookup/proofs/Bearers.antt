@@ -8,7 +8,7 @@ use mathlib.Core.Bool.{true, false, true≢false}
 use lib.ListN.{length}
 use Rattle.number.specs.Lists.{keep}
 use Rattle.number.proofs.SameBytes.{eq-true, eq-refl}
-use Rattle.number.proofs.Tested.{FirstKept, first-kept, kept-more, keep-empty, keep-none}
+use Rattle.number.proofs.Tested.{FirstKept, first-kept, kept-more, keep-empty}
 use Rattle.walk.specs.Walk.{Entry}
 use Rattle.lookup.specs.Lookup.{refused, gives, bears, foremost, only, Nobody, FirstBearer, OnlyBearer, TwoBearers}
 
@@ -88,12 +88,3 @@ two-bearers name l = (λ e. there (keep (bears name) l) refl e, λ w. back w (ke
     back w [] p = absurd (omega (arith, many w, ap length p))
     back w (t ∷ []) p = absurd (omega (arith, many w, ap length p))
     back w (t ∷ u ∷ us) p = refl
-
--- 10 is given exactly if nobody bears the name.
-pub no-bearer : (name : List ℕ) (l : List Entry) → (foremost (keep (bears name) l) ≡ refused 10) ↔ ((x : Entry) → List·Memᴰ x l → bears name x ≡ false)
-unfolding foremost
-no-bearer name l = (λ e. keep-empty (bears name) l (empty (keep (bears name) l) e), λ h. rw (keep-none (bears name) l h))
-  where
-    empty : (k : List Entry) → foremost k ≡ refused 10 → k ≡ []
-    empty [] e = refl
-    empty (t ∷ ts) e = let z : _≡_ {A = ℕ} 0 1 = cc in absurd (omega arith)

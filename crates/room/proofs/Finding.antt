@@ -1,26 +1,28 @@
--- Free runs and slots as a plain walk meets them, step by step.
-use Prim.Native.Nat.{ℕ, zero, suc, _+_, _≤_}
+-- Free runs, slots and names by the places of a region and the headers there; and that they are the listing's where the places are.
+use Prim.Native.Nat.{ℕ, zero, suc, _+_, _≤_, _<_}
+use native.Mathlib.Nat.{add-zero, le-of-suc-le-suc}
+use native.Mathlib.Numerals.{add-one}
 use native.Mathlib.Omega.{arith}
-use mathlib.Core.Path.{_≡_, refl, sym, ap}
-use mathlib.Core.List.{List, [], _∷_, List·Memᴰ, List·Memᴰ·head, List·Memᴰ·tail}
-use mathlib.Core.Bool.{Bool, true, false, cond}
-use mathlib.Core.Option.{Option, some, none}
-use lib.ListN.{length}
-use Rattle.number.specs.Lists.{any, keep}
-use Rattle.walk.specs.Walk.{Entry, next, plain, step, listingFrom, plainListing, told, takenOf}
-use Rattle.lookup.specs.Lookup.{refused, gives, bears, foremost, plainLookup, found}
-use Rattle.walk.specs.declared.Taken.{Taken}
-use Rattle.walk.specs.declared.Step.the-variants.{Took, NoneLeft}
-use Rattle.lookup.specs.declared.Found.the-variants.{At, Refused}
-use Rattle.walk.proofs.Steps.{rest-none, rest-some}
-use Rattle.walk.proofs.Stepping.{pick-fits, step-past}
-use Rattle.walk.proofs.Standing.{told-some, told-none, Stands, stands}
-use Rattle.lookup.proofs.Answers.{found-some, found-none, lookup-member}
-use Rattle.lookup.proofs.Bearers.{no-bearer}
-use Rattle.number.proofs.Tested.{none-any, mem-any}
+use mathlib.Core.Path.{_≡_, refl, ap}
+use mathlib.Core.List.{List, [], _∷_, List·Memᴰ·head, List·Memᴰ·tail}
+use mathlib.Core.Bool.{Bool, true, false}
+use mathlib.Core.Option.{some}
+use lib.ListN.{length, drop, getD, drop-of-length-le}
+use lib.Seq.{drop-cons, getD-drop}
+use Rattle.number.specs.Lists.{any}
+use Rattle.number.specs.Number.{be}
+use Rattle.component.specs.Component.{Component, judge, componentOf}
+use Rattle.component.proofs.Judging.{formed}
+use Rattle.walk.specs.Walk.{Entry, onward, end, next, plainListing}
+use Rattle.walk.proofs.Members.{given}
+use Rattle.lookup.specs.Lookup.{bears}
+use Rattle.strict.specs.Strict.{placesOf}
 use Rattle.strict.specs.Slots.{start}
-use Rattle.edit.specs.Edit.{holds, runs, lowest, slotOf}
-use Rattle.room.specs.Room.{run, roomFor, roomOf, spaceOf}
+use Rattle.checker.specs.Directory.{named}
+use Rattle.checker.proofs.Names.{Judged, same-any}
+use Rattle.edit.specs.Edit.{Run, holds, runs, freeRuns, lowest, slotOf}
+use Rattle.room.specs.Room.{run, roomFor, roomOf, spaceOf, spanEnd, runsBetween, slotAmong}
+use Rattle.room.specs.declared.Space.{Space}
 use Rattle.room.specs.declared.Room.the-variants.{Within, Nowhere}
 
 -- One run.
@@ -33,118 +35,125 @@ pub room-no : (n from to k : ℕ) → holds n (run from to) ≡ false → Nowher
 unfolding lowest
 room-no n from to k e = rw e
 
--- The listing from m on.
-module _ (r : List ℕ) (a : ℕ) where
-  abbrev L : ℕ → List Entry
-  L m = listingFrom (plain r) r a m
+-- Behind the region's end there is no header.
+pub span-past : (r : List ℕ) (p : ℕ) → length r < p → p ≡ spanEnd r p
+unfolding be
+span-past r p h = rw (drop-of-length-le r {i = p} (omega arith)) (omega arith)
 
-  listed-none : (m : ℕ) → step (plain r) r a m ≡ none → L m ≡ []
-  listed-none m e = rest-none (plain r) r a m e
+-- What stands at a place of a list does not hang on what is answered elsewhere.
+pub stands : (ps : List ℕ) (k e : ℕ) → k < length ps → getD ps k 0 ≡ getD ps k e
+stands [] k e h = absurd (omega arith)
+stands (p ∷ ps) zero e h = refl
+stands (p ∷ ps) (suc k) e h = stands ps k e (le-of-suc-le-suc h)
 
-  listed-some : (m : ℕ) (t : Entry) → step (plain r) r a m ≡ some t → L m ≡ t ∷ L (next r a t)
-  listed-some m t e = let s = stands false r a m t e in rest-some (plain r) r a (s .pos) (pick-fits false r a (s .pos)) m t e
+-- The places of ps from the i-th on.
+module _ (r ps : List ℕ) (i : ℕ) where
+  module _ (a n m : ℕ) where
+    pub runs-end : length ps ≤ i → lowest n (runsBetween r a m (drop i ps)) ≡ lowest n (run m (length r) ∷ [])
+    unfolding runsBetween
+    runs-end h = rw (drop-of-length-le ps h)
 
-  -- Free runs.
+    pub runs-here : i < length ps → holds n (run m (getD ps i 0)) ≡ true → lowest n (runsBetween r a m (drop i ps)) ≡ some (run m (getD ps i 0))
+    unfolding runsBetween lowest
+    runs-here h y = rw (drop-cons ps i 0 h, y)
 
-  pub runs-last : (n m : ℕ) → step (plain r) r a m ≡ none → lowest n (runs r a m (L m)) ≡ lowest n (run m (length r) ∷ [])
-  unfolding runs
-  runs-last n m e = rw (listed-none m e)
+    pub runs-on : i < length ps → holds n (run m (getD ps i 0)) ≡ false
+        → lowest n (runsBetween r a m (drop i ps)) ≡ lowest n (runsBetween r a (onward r a (spanEnd r (getD ps i 0))) (drop (i + 1) ps))
+    unfolding runsBetween lowest
+    runs-on h y = rw (drop-cons ps i 0 h, y, add-one i)
 
-  pub runs-told-last : (n m : ℕ) → told r a (step (plain r) r a m) ≡ NoneLeft → lowest n (runs r a m (L m)) ≡ lowest n (run m (length r) ∷ [])
-  runs-told-last n m e = runs-last n m (told-none r a (step (plain r) r a m) e)
-
-  pub runs-past : (n m : ℕ) → length r ≤ m → lowest n (runs r a m (L m)) ≡ lowest n (run m (length r) ∷ [])
-  runs-past n m h = runs-last n m (step-past (plain r) r a m h)
-
-  module _ (n m : ℕ) (t : Taken) (s : told r a (step (plain r) r a m) ≡ Took t) where
-    pub runs-here : holds n (run m (t .place)) ≡ true → lowest n (runs r a m (L m)) ≡ some (run m (t .place))
-    unfolding runs lowest
-    runs-here h = let (e, o, q) = told-some r a (step (plain r) r a m) t s in go e o q
-      where
-        go : (e : Entry) → step (plain r) r a m ≡ some e → takenOf r a e ≡ t → lowest n (runs r a m (L m)) ≡ some (run m (t .place))
-        go e o q = let p : e .place ≡ t .place = ap (λ (x : Taken). x .place) q in rw (listed-some m e o, p, h)
-
-    pub runs-on : holds n (run m (t .place)) ≡ false → lowest n (runs r a m (L m)) ≡ lowest n (runs r a (t .next) (L (t .next)))
-    unfolding runs lowest
-    runs-on h = let (e, o, q) = told-some r a (step (plain r) r a m) t s in go e o q
-      where
-        go : (e : Entry) → step (plain r) r a m ≡ some e → takenOf r a e ≡ t → lowest n (runs r a m (L m)) ≡ lowest n (runs r a (t .next) (L (t .next)))
-        go e o q =
-            let p : t .place ≡ e .place = sym (ap (λ (x : Taken). x .place) q) in
-            let k : holds n (run m (e .place)) ≡ false = rw p at h in
-            rw (listed-some m e o, k) (ap (λ (x : Taken). lowest n (runs r a (x .next) (L (x .next)))) q)
-
-  -- The next component's start.
-
-  pub start-none : (m : ℕ) → told r a (step (plain r) r a m) ≡ NoneLeft → length r ≡ start (length r) (L m)
-  unfolding start
-  start-none m e = rw (listed-none m (told-none r a (step (plain r) r a m) e))
-
-  pub start-some : (m : ℕ) (t : Taken) → told r a (step (plain r) r a m) ≡ Took t → t .place ≡ start (length r) (L m)
-  unfolding start
-  start-some m t s = let (e, o, q) = told-some r a (step (plain r) r a m) t s in rw (listed-some m e o) (sym (ap (λ (x : Taken). x .place) q))
-
-  -- The slot of the name's bearer.
   module _ (name : List ℕ) where
-    slot-from : (t : Entry) (d m : ℕ) → length r ≤ m + d → foremost (keep (bears name) (L m)) ≡ gives t
-        → slotOf (length r) name (L m) ≡ some (record { entry = t; run = run (t .place) (start (length r) (L (next r a t))) })
-    unfolding slotOf keep foremost
-    slot-from t zero m h e = let q : refused 10 ≡ gives t = rw (listed-none m (step-past (plain r) r a m (omega arith))) at e in absurd (no q)
+    pub slot-end : length ps ≤ i → slotAmong r name (drop i ps) ≡ Nowhere
+    unfolding slotAmong
+    slot-end h = rw (drop-of-length-le ps h)
+
+    pub slot-here : i < length ps → named r name (getD ps i 0) ≡ true
+        → slotAmong r name (drop i ps) ≡ Within (spaceOf (run (getD ps i 0) (getD ps (i + 1) (length r))) (be 4 (drop (getD ps i 0) r) 12))
+    unfolding slotAmong
+    slot-here h y = rw (drop-cons ps i 0 h, y, add-one i, getD-drop (suc i) ps 0 (length r), add-zero)
+
+    pub slot-on : i < length ps → named r name (getD ps i 0) ≡ false → slotAmong r name (drop i ps) ≡ slotAmong r name (drop (i + 1) ps)
+    unfolding slotAmong
+    slot-on h y = rw (drop-cons ps i 0 h, y, add-one i)
+
+-- A name has a slot exactly if it is used.
+
+pub used-yes : (r name ps : List ℕ) (z : Space) → slotAmong r name ps ≡ Within z → any (named r name) ps ≡ true
+unfolding slotAmong any
+used-yes r name [] z e = let o : _≡_ {A = ℕ} 0 1 = cc in absurd (omega arith)
+used-yes r name (p ∷ ps) z e = go (named r name p) refl (λ f. used-yes r name ps z f)
+  where
+    go : (b : Bool) → named r name p ≡ b → (slotAmong r name ps ≡ Within z → any (named r name) ps ≡ true) → any (named r name) (p ∷ ps) ≡ true
+    go true q ih = rw q
+    go false q ih = rw q (ih (rw q at e))
+
+pub used-no : (r name ps : List ℕ) → slotAmong r name ps ≡ Nowhere → any (named r name) ps ≡ false
+unfolding slotAmong any
+used-no r name [] e = refl
+used-no r name (p ∷ ps) e = go (named r name p) refl (λ f. used-no r name ps f)
+  where
+    go : (b : Bool) → named r name p ≡ b → (slotAmong r name ps ≡ Nowhere → any (named r name) ps ≡ false) → any (named r name) (p ∷ ps) ≡ false
+    go true q ih = let f : Within _ ≡ Nowhere = rw q at e in let o : _≡_ {A = ℕ} 0 1 = cc in absurd (omega arith)
+    go false q ih = rw q (ih (rw q at e))
+
+-- Now the places are those of a listing.
+
+found : (r : List ℕ) (a : ℕ) → Judged r (plainListing r a)
+found r a t m = given false r a t m .judged
+
+found-tail : (r : List ℕ) (t : Entry) (l : List Entry) → Judged r (t ∷ l) → Judged r l
+found-tail r t l j u m = j u (List·Memᴰ·tail m)
+
+-- A component's numbers as its header has them.
+judge-read : (s : List ℕ) (c : Component) → judge s ≡ some c → (be 4 s 20 ≡ c .offset) × (be 4 s 8 ≡ c .len) × (be 4 s 12 ≡ c .kind)
+unfolding componentOf
+judge-read s c e = let f = formed s c e .read in (ap (λ (x : Component). x .offset) f, ap (λ (x : Component). x .len) f, ap (λ (x : Component). x .kind) f)
+
+-- A component as it is found at its place: its end, its type and its name.
+module _ (r : List ℕ) (t : Entry) (e : judge (drop (t .place) r) ≡ some (t .component)) where
+  end-at : spanEnd r (t .place) ≡ end t
+  end-at = let f = judge-read (drop (t .place) r) (t .component) e in omega (arith, f .0, f .1)
+
+  kind-at : be 4 (drop (t .place) r) 12 ≡ t .component .kind
+  kind-at = judge-read (drop (t .place) r) (t .component) e .2
+
+  named-bears : (name : List ℕ) → named r name (t .place) ≡ bears name t
+  unfolding named bears
+  named-bears name = rw e
+
+start-first : (e : ℕ) (l : List Entry) → start e l ≡ getD (placesOf l) 0 e
+unfolding start
+start-first e [] = refl
+start-first e (t ∷ l) = refl
+
+module _ (r : List ℕ) where
+  runs-found : (a n : ℕ) (l : List Entry) → Judged r l → runsBetween r a n (placesOf l) ≡ runs r a n l
+  unfolding runsBetween runs
+  runs-found a n [] j = refl
+  runs-found a n (t ∷ l) j =
+      rw (end-at r t (j t (List·Memᴰ·head refl))) (ap (λ (x : List Run). run n (t .place) ∷ x) (runs-found a (next r a t) l (found-tail r t l j)))
+
+  module _ (name : List ℕ) where
+    slot-found : (l : List Entry) → Judged r l → slotAmong r name (placesOf l) ≡ roomOf (slotOf (length r) name l)
+    unfolding slotAmong slotOf
+    slot-found [] j = refl
+    slot-found (t ∷ l) j = go (bears name t) refl (slot-found l (found-tail r t l j))
       where
-        no : refused 10 ≡ gives t → ⊥
-        no q = let z : _≡_ {A = ℕ} 0 1 = cc in omega arith
-    slot-from t (suc d) m h e = go (step (plain r) r a m) refl (λ k l f. slot-from t d k l f)
-      where
-        no : refused 10 ≡ gives t → ⊥
-        no q = let z : _≡_ {A = ℕ} 0 1 = cc in omega arith
+        e : judge (drop (t .place) r) ≡ some (t .component)
+        e = j t (List·Memᴰ·head refl)
 
-        Goal : List Entry → Type 0
-        Goal l = slotOf (length r) name l ≡ some (record { entry = t; run = run (t .place) (start (length r) (L (next r a t))) })
+        go : (b : Bool) → bears name t ≡ b → slotAmong r name (placesOf l) ≡ roomOf (slotOf (length r) name l)
+            → slotAmong r name (placesOf (t ∷ l)) ≡ roomOf (slotOf (length r) name (t ∷ l))
+        go true q ih = rw (named-bears r t e name, q, kind-at r t e, start-first (length r) l)
+        go false q ih = rw (named-bears r t e name, q) ih
 
-        by : (u : Entry) → (b : Bool) → bears name u ≡ b → foremost (cond b (u ∷ keep (bears name) (L (next r a u))) (keep (bears name) (L (next r a u)))) ≡ gives t
-            → (foremost (keep (bears name) (L (next r a u))) ≡ gives t → Goal (L (next r a u))) → Goal (u ∷ L (next r a u))
-        by u true q f ih = let w : u ≡ t = cc in rw (q, w)
-        by u false q f ih = rw q (ih f)
+-- By the places of a region's components: its free runs, the slot of a name's bearer, and whether a name is used.
+module _ (r : List ℕ) (a : ℕ) where
+  pub runs-listed : runsBetween r a 0 (placesOf (plainListing r a)) ≡ freeRuns r a
+  runs-listed = runs-found r a 0 (plainListing r a) (found r a)
 
-        go : (o : Option Entry) → step (plain r) r a m ≡ o → ((k : ℕ) → length r ≤ k + d → foremost (keep (bears name) (L k)) ≡ gives t → Goal (L k)) → Goal (L m)
-        go none o ih = absurd (no (rw (listed-none m o) at e))
-        go (some u) o ih =
-            let s : Stands r a m u = stands false r a m u o in
-            let l = listed-some m u o in
-            rw l (by u (bears name u) refl (rw l at e) (ih (next r a u) (omega (arith, s .later))))
+  pub slot-listed : (name : List ℕ) → slotAmong r name (placesOf (plainListing r a)) ≡ roomOf (slotOf (length r) name (plainListing r a))
+  slot-listed name = slot-found r name (plainListing r a) (found r a)
 
-    pub slot-given : (t : Entry) → plainLookup r a name ≡ gives t → slotOf (length r) name (plainListing r a) ≡ some (record { entry = t; run = run (t .place) (start (length r) (L (next r a t))) })
-    slot-given t e = slot-from t (length r) 0 (omega arith) e
-
-    slotless : (k : List Entry) → ((x : Entry) → List·Memᴰ x k → bears name x ≡ false) → slotOf (length r) name k ≡ none
-    unfolding slotOf
-    slotless [] h = refl
-    slotless (x ∷ xs) h = rw (h x (List·Memᴰ·head refl)) (slotless xs (λ y m. h y (List·Memᴰ·tail m)))
-
-    slot-refused : (l : List Entry) → foremost (keep (bears name) l) ≡ refused 10 → slotOf (length r) name l ≡ none
-    slot-refused l e = slotless l (no-bearer name l .0 e)
-
-    foremost-ten : (l : List Entry) (n : ℕ) → foremost l ≡ refused n → foremost l ≡ refused 10
-    unfolding foremost
-    foremost-ten [] n e = refl
-    foremost-ten (x ∷ l) n e = let z : _≡_ {A = ℕ} 0 1 = cc in absurd (omega arith)
-
-    pub room-missing : (n : ℕ) → found r a (plainLookup r a name) ≡ Refused n → Nowhere ≡ roomOf (slotOf (length r) name (plainListing r a))
-    room-missing n e = rw (slot-refused (plainListing r a) (foremost-ten _ n (found-none r a (plainLookup r a name) n e)))
-
-    pub room-given : (t : Taken) (e : ℕ) → found r a (plainLookup r a name) ≡ At t → e ≡ start (length r) (L (t .next))
-        → Within (record { start = t .place; end = e; kind = t .header .kind }) ≡ roomOf (slotOf (length r) name (plainListing r a))
-    room-given t e f q = let (u, o, w) = found-some r a (plainLookup r a name) t f in go u o w
-      where
-        go : (u : Entry) → plainLookup r a name ≡ gives u → takenOf r a u ≡ t → Within (record { start = t .place; end = e; kind = t .header .kind }) ≡ roomOf (slotOf (length r) name (plainListing r a))
-        go u o w = rw (slot-given u o, q, ← w)
-
-    -- 15: somebody bears the name.
-
-    pub used-yes : (t : Taken) → found r a (plainLookup r a name) ≡ At t → any (bears name) (plainListing r a) ≡ true
-    used-yes t f =
-        let (u, o, w) = found-some r a (plainLookup r a name) t f in
-        let m = lookup-member false r a name u o in mem-any (bears name) (plainListing r a) u (m .0) (m .1)
-
-    pub used-no : (n : ℕ) → found r a (plainLookup r a name) ≡ Refused n → any (bears name) (plainListing r a) ≡ false
-    used-no n e = none-any (bears name) (plainListing r a) (no-bearer name (plainListing r a) .0 (foremost-ten _ n (found-none r a (plainLookup r a name) n e)))
+  pub used-listed : (name : List ℕ) → any (named r name) (placesOf (plainListing r a)) ≡ any (bears name) (plainListing r a)
+  used-listed name = same-any r name (plainListing r a) (found r a)

@@ -1,15 +1,13 @@
-// Where an edit finds room in a region's bytes r: the lowest free run that holds a span, the slot of a name's bearer, and whether a name is used (document 01, "Edits").
-use lookup::Found;
-use walk::Step;
+// Where an edit finds room in a region's bytes r: the lowest free run that holds a span, the slot of a name's bearer, and whether a name is
+// used (document 01, "Edits"). All follow from the places of the region's components, which the strict check has stored, and from the headers
+// there: the region is not searched again.
 ghost use mathlib.Core.Path.{_≡_};
 ghost use mathlib.Core.List.{[], _∷_};
-ghost use lib.ListN.{length};
+ghost use lib.ListN.{getD};
 ghost use Rattle.number.specs.Lists.{any};
-ghost use Rattle.walk.specs.Walk.{plain, listingFrom, plainListing};
-ghost use Rattle.lookup.specs.Lookup.{bears};
-ghost use Rattle.strict.specs.Slots.{start as startOf};
-ghost use Rattle.edit.specs.Edit.{offsetFor, holds as holdsOf, freeRuns, lowest, slotOf};
-ghost use Rattle.room.specs.Room.{run, roomFor, roomOf};
+ghost use Rattle.edit.specs.Edit.{offsetFor, holds as holdsOf, lowest};
+ghost use Rattle.checker.specs.Directory.{named};
+ghost use Rattle.room.specs.Room.{run, roomFor, spanEnd, runsBetween, slotAmong};
 
 // The bytes from start up to end, and the type of the component that stands there or is to.
 pub struct Space {
@@ -59,71 +57,78 @@ fn last_room(n: usize, from: usize, to: usize, kind: u32) -> Room
     Room::Nowhere
 }
 
-// The lowest free run that holds n bytes, for a component of this type.
-pub fn free_run(r: &[u8], align: usize, n: usize, kind: u32) -> Room
-    ensures { λ o. ⌜ o ≡ roomFor kind (lowest n (freeRuns (now (r .entry)) align)) ⌝ }
-    ensures kept { λ _. ⌜ now (r .exit) ≡ now (r .entry) ⌝ }
+// The end of the span at p, by the numbers that stand in the header there. The judge is not asked again.
+fn span_end(r: &[u8], p: usize) -> usize
+    ensures { λ e. ⌜ e ≡ spanEnd (now (r .entry)) p ⌝ }
+{
+    if r.len() < p {
+        return p;
+    }
+    let s = number::rest(r, p);
+    p + (number::be32(s, 20) as usize + number::be32(s, 8) as usize)
+}
+
+// The lowest of the runs between the spans at the places ps that holds n bytes, for a component of this type.
+pub fn free_run(r: &[u8], align: usize, ps: &[usize], n: usize, kind: u32) -> Room
+    ensures { λ o. ⌜ o ≡ roomFor kind (lowest n (runsBetween (now (r .entry)) align 0 (now (ps .entry)))) ⌝ }
+    ensures kept { λ _. ⌜ (now (r .exit) ≡ now (r .entry)) × (now (ps .exit) ≡ now (ps .entry)) ⌝ }
 {
     let mut from = 0;
-    while from < r.len() {
-        let s = walk::plain_step(r, align, from);
-        match s {
-            Step::NoneLeft => {
-                return last_room(n, from, r.len(), kind);
-            }
-            Step::Took(t) => {
-                if holds(n, from, t.place) {
-                    return Room::Within(Space {
-                        start: from,
-                        end: t.place,
-                        kind,
-                    });
-                }
-                from = t.next;
-            }
+    let mut i = 0;
+    while i < ps.len() {
+        let p = ps[i];
+        if holds(n, from, p) {
+            return Room::Within(Space {
+                start: from,
+                end: p,
+                kind,
+            });
         }
+        from = walk::onward(r, align, span_end(r, p));
+        i += 1;
     }
     last_room(n, from, r.len(), kind)
 }
 
-// The start of the first component that a plain walk begun at `from` takes, or else the region's end.
-fn next_start(r: &[u8], align: usize, from: usize) -> usize
-    ensures { λ e. ⌜ e ≡ startOf (length (now (r .entry))) (listingFrom (plain (now (r .entry))) (now (r .entry)) align from) ⌝ }
+// The k-th of the places, or else e.
+fn next_start(ps: &[usize], k: usize, e: usize) -> usize
+    ensures { λ q. ⌜ q ≡ getD (now (ps .entry)) k e ⌝ }
 {
-    let s = walk::plain_step(r, align, from);
-    match s {
-        Step::Took(t) => t.place,
-        Step::NoneLeft => r.len(),
+    if k < ps.len() {
+        return ps[k];
     }
+    e
 }
 
-// The slot of the name's bearer.
-pub fn slot_of(r: &[u8], align: usize, name: &[u8]) -> Room
-    ensures { λ o. ⌜ o ≡ roomOf (slotOf (length (now (r .entry))) (now (name .entry)) (plainListing (now (r .entry)) align)) ⌝ }
-    ensures kept { λ _. ⌜ (now (r .exit) ≡ now (r .entry)) × (now (name .exit) ≡ now (name .entry)) ⌝ }
+// The slot of the first component at the places ps that bears the name.
+pub fn slot_of(r: &[u8], ps: &[usize], name: &[u8]) -> Room
+    ensures { λ o. ⌜ o ≡ slotAmong (now (r .entry)) (now (name .entry)) (now (ps .entry)) ⌝ }
+    ensures kept { λ _. ⌜ (now (r .exit) ≡ now (r .entry)) × (now (ps .exit) ≡ now (ps .entry)) × (now (name .exit) ≡ now (name .entry)) ⌝ }
 {
-    let f = lookup::plain_find(r, align, name);
-    match f {
-        Found::At(t) => {
-            let h = t.header;
-            Room::Within(Space {
-                start: t.place,
-                end: next_start(r, align, t.next),
-                kind: h.kind,
-            })
+    let mut i = 0;
+    while i < ps.len() {
+        let p = ps[i];
+        let s = number::rest(r, p);
+        if component::is_named(s, name) {
+            return Room::Within(Space {
+                start: p,
+                end: next_start(ps, i + 1, r.len()),
+                kind: number::be32(s, 12),
+            });
         }
-        Found::Refused(_) => Room::Nowhere,
+        i += 1;
     }
+    Room::Nowhere
 }
 
-// A component of the region bears the name.
-pub fn used(r: &[u8], align: usize, name: &[u8]) -> bool
-    ensures { λ b. ⌜ b ≡ any (bears (now (name .entry))) (plainListing (now (r .entry)) align) ⌝ }
-    ensures kept { λ _. ⌜ (now (r .exit) ≡ now (r .entry)) × (now (name .exit) ≡ now (name .entry)) ⌝ }
+// One of the components at the places ps bears the name.
+pub fn used(r: &[u8], ps: &[usize], name: &[u8]) -> bool
+    ensures { λ b. ⌜ b ≡ any (named (now (r .entry)) (now (name .entry))) (now (ps .entry)) ⌝ }
+    ensures kept { λ _. ⌜ (now (r .exit) ≡ now (r .entry)) × (now (ps .exit) ≡ now (ps .entry)) × (now (name .exit) ≡ now (name .entry)) ⌝ }
 {
-    let f = lookup::plain_find(r, align, name);
-    match f {
-        Found::At(_) => true,
-        Found::Refused(_) => false,
+    let x = slot_of(r, ps, name);
+    match x {
+        Room::Within(_) => true,
+        Room::Nowhere => false,
     }
 }

@@ -5,7 +5,7 @@ use mathlib.Core.Path.{_≡_, refl, sym, ap, _∙_}
 use mathlib.Core.List.{List, [], _∷_}
 use mathlib.Core.Logic.{_↔_, _⊎_, inl, inr}
 use mathlib.Core.Bool.{Bool, true, false}
-use lib.ListN.{length, length-map}
+use lib.ListN.{length}
 use lib.Dec.{ltb}
 use borrow.Author.Tests.{lt-ltb, le-ltb, ltb-true, ltb-false}
 use Rattle.walk.specs.Walk.{Entry, plainListing}
@@ -116,19 +116,13 @@ module _ (most : ℕ) (r : List ℕ) (a : ℕ) where
           not : accepted (placesOf (plainListing r a)) ≡ refused n p → ⊥
           not e = let z : _≡_ {A = ℕ} 0 1 = cc in omega arith
 
--- The strict check accepts exactly under document 01's three conditions; then its places are the plain listing's, as many as it is long.
+-- The strict check accepts exactly under document 01's three conditions; then its places are the plain listing's.
 
 pub accepted-exactly : (r : List ℕ) (a : ℕ) (ps : List ℕ) → (verdict limit r a ≡ accepted ps) ↔ (Accepted r a × (ps ≡ placesOf (plainListing r a)))
 accepted-exactly r a ps = (
   λ v. let h = accepts limit r a ps .0 v in (record { all-taken = h .0; few = h .1; told-apart = h .2 }, h .3),
   λ h. accepts limit r a ps .1 (h .0 .all-taken, h .0 .few, h .0 .told-apart, h .1),
 )
-
-pub accepted-count : (r : List ℕ) (a : ℕ) (ps : List ℕ) → verdict limit r a ≡ accepted ps → (length ps ≡ length (plainListing r a)) × (length ps ≤ limit)
-accepted-count r a ps v =
-    let h = accepted-exactly r a ps .0 v in
-    let n : length ps ≡ length (plainListing r a) = ap length (h .1) ∙ length-map (plainListing r a) (λ (t : Entry). t .place) in
-    (n, omega (arith, h .0 .few))
 
 -- The refusals in the paper's words.
 

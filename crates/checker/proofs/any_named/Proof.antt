@@ -21,33 +21,34 @@ start c = c .before .before .before .before .before
 loop-holds : tie.Need-loop-holds Inv-loop μ-loop
 loop-holds c = (omega arith, refl)
 
-mul-is-named : tie.Need-mul-is-named Inv-loop μ-loop
-mul-is-named c = search needs
+mul-has-name : tie.Need-mul-has-name Inv-loop μ-loop
+mul-has-name c = search needs
 
-shared-slice-read-is-named : tie.Need-shared-slice-read-is-named Inv-loop μ-loop
-shared-slice-read-is-named c = search needs
+shared-slice-read-has-name : tie.Need-shared-slice-read-has-name Inv-loop μ-loop
+shared-slice-read-has-name c = search needs
 
-mul-is-named-2 : tie.Need-mul-is-named-2 Inv-loop μ-loop
-mul-is-named-2 c = search needs
+mul-has-name-2 : tie.Need-mul-has-name-2 Inv-loop μ-loop
+mul-has-name-2 c = search needs
 
-shared-slice-read-is-named-2 : tie.Need-shared-slice-read-is-named-2 Inv-loop μ-loop
-shared-slice-read-is-named-2 c = search needs
+shared-slice-read-has-name-2 : tie.Need-shared-slice-read-has-name-2 Inv-loop μ-loop
+shared-slice-read-has-name-2 c = search needs
 
-is-named-requires : tie.Need-is-named-requires Inv-loop μ-loop
-is-named-requires c κs =
+has-name-requires : tie.Need-has-name-requires Inv-loop μ-loop
+has-name-requires c κs =
     let l = c .before .before .before in
     let s = start l in
-    (s .pre .3 .each (l .loop .k) (omega arith), s .pre .4)
+    (s .pre .1 .each (l .loop .k) (omega arith), s .pre .2)
 
 -- the place where the paths begin
-abbrev loop : tie.After-is-named Inv-loop μ-loop → tie.At-loop Inv-loop μ-loop
+abbrev loop : tie.After-has-name Inv-loop μ-loop → tie.At-loop Inv-loop μ-loop
 loop c = c .before .before .before .before
 
 returns : tie.Need-returns Inv-loop μ-loop
 returns c =
     let l = loop (c .before) in
     let a = start l .args in
-    sym (l .loop .inv .1 ∙ any-here (named (a .r .now) (a .name .now)) (a .places .now) (l .loop .k) (a .to) (omega arith) (start l .pre .1) (sym (c .before .is-named .ensures) ∙ c .if1 .taken))
+    let borne = sym (c .before .has-name .ensures) ∙ c .if1 .taken in
+    sym (l .loop .inv .1 ∙ any-here (named (a .r .now) (a .name .now)) (a .places .now) (l .loop .k) (a .to) (omega arith) (start l .pre .1 .stored) borne)
 
 add-k : tie.Need-add-k Inv-loop μ-loop
 add-k c = search needs
@@ -59,7 +60,9 @@ loop-again : tie.Need-loop-again Inv-loop μ-loop
 loop-again c =
     let l = loop (c .before) in
     let a = start l .args in
-    (omega arith, l .loop .inv .1 ∙ any-on (named (a .r .now) (a .name .now)) (a .places .now) (l .loop .k) (a .to) (omega arith) (start l .pre .1) (sym (c .before .is-named .ensures) ∙ c .if1 .left))
+    let other = sym (c .before .has-name .ensures) ∙ c .if1 .left in
+    let on = any-on (named (a .r .now) (a .name .now)) (a .places .now) (l .loop .k) (a .to) (omega arith) (start l .pre .1 .stored) other in
+    (omega arith, l .loop .inv .1 ∙ on)
 
 returns-2 : tie.Need-returns-2 Inv-loop μ-loop
 returns-2 c =
@@ -74,11 +77,11 @@ any-named-spec =
     Inv-loop
     μ-loop
     loop-holds
-    mul-is-named
-    shared-slice-read-is-named
-    mul-is-named-2
-    shared-slice-read-is-named-2
-    is-named-requires
+    mul-has-name
+    shared-slice-read-has-name
+    mul-has-name-2
+    shared-slice-read-has-name-2
+    has-name-requires
     returns
     add-k
     loop-less

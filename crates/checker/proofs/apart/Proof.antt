@@ -1,11 +1,10 @@
-use Prim.Native.Nat.{ℕ, _+_, _-_}
-use mathlib.Core.Path.{_≡_, sym, ap, _∙_}
-use mathlib.Core.List.{List}
+use Prim.Native.Nat.{_+_, _-_}
+use mathlib.Core.Path.{_≡_, sym, _∙_}
 use native.Mathlib.Nat.{sub-zero}
 use native.Mathlib.Omega.{arith}
 use lib.ListN.{take, drop, getD}
 use Rattle.number.specs.Lists.{any}
-use Rattle.checker.specs.Directory.{nameAt, digestOf, named, apartAt}
+use Rattle.checker.specs.Directory.{nameAt, named, apartAt}
 use Rattle.checker.proofs.Names.{apart-not, apart-on, apart-end}
 use borrow.Author.Needs.{needs}
 use Rattle.checker.proofs.apart.Statement.{statement}
@@ -19,10 +18,13 @@ abbrev μ-loop : tie.MeasureT-loop
 
 -- the places where the paths begin
 abbrev start : tie.At-loop Inv-loop μ-loop → tie.Start Inv-loop μ-loop
-start c = c .before .before .before .before
+start c = c .before .before .before .before .before .before
 
-abbrev loop : tie.After-name-at Inv-loop μ-loop → tie.At-loop Inv-loop μ-loop
-loop c = c .before .before .before .before
+abbrev loop : tie.After-digests3 Inv-loop μ-loop → tie.At-loop Inv-loop μ-loop
+loop c = c .before .before .before
+
+slice-aggregate-name-digests : tie.Need-slice-aggregate-name-digests Inv-loop μ-loop
+slice-aggregate-name-digests c = search needs
 
 name-digests-requires : tie.Need-name-digests-requires Inv-loop μ-loop
 name-digests-requires c κs = search needs
@@ -42,31 +44,26 @@ mul-asked c = search needs
 array-read-asked : tie.Need-array-read-asked Inv-loop μ-loop
 array-read-asked c = search needs
 
-slice-aggregate-any-named : tie.Need-slice-aggregate-any-named Inv-loop μ-loop
-slice-aggregate-any-named c = search needs
+slice-aggregate-repeated : tie.Need-slice-aggregate-repeated Inv-loop μ-loop
+slice-aggregate-repeated c = search needs
 
-add-any-named : tie.Need-add-any-named Inv-loop μ-loop
-add-any-named c = search needs
+add-repeated : tie.Need-add-repeated Inv-loop μ-loop
+add-repeated c = search needs
 
-name-at-requires : tie.Need-name-at-requires Inv-loop μ-loop
-name-at-requires c κs = search needs
-
-any-named-requires : tie.Need-any-named-requires Inv-loop μ-loop
-any-named-requires c κs =
+repeated-requires : tie.Need-repeated-requires Inv-loop μ-loop
+repeated-requires c κs =
     let l = loop c in
     let s = start l in
-    let d = l .before .name-digests .ensures in
-    (omega arith, s .pre .0, s .pre .1, d, d .each (l .loop .i) (omega arith) ∙ sym (ap digestOf (c .name-at .ensures)))
+    let d = l .before .before .name-digests .ensures in
+    (omega arith, d, d .each (l .loop .i) (omega arith))
 
 -- what the search says of the components after the place i
-said : (c : tie.After-any-named Inv-loop μ-loop) →
+said : (c : tie.After-repeated Inv-loop μ-loop) →
     let l = loop (c .before) in
     let a = start l .args in
-    any (named (a .r .now) (nameAt (a .r .now) (getD (a .places .now) (l .loop .i) 0))) (take (a .n - (l .loop .i + 1)) (drop (l .loop .i + 1) (a .places .now))) ≡ c .any-named .result
-said c =
-    let l = loop (c .before) in
-    let a = start l .args in
-    sym (c .any-named .ensures ∙ ap (λ (x : List ℕ). any (named (a .r .now) x) (take (a .n - (l .loop .i + 1)) (drop (l .loop .i + 1) (a .places .now)))) (c .before .name-at .ensures))
+    let name = nameAt (a .r .now) (getD (a .places .now) (l .loop .i) 0) in
+    any (named (a .r .now) name) (take (a .n - (l .loop .i + 1)) (drop (l .loop .i + 1) (a .places .now))) ≡ c .repeated .result
+said c = sym (c .repeated .ensures)
 
 returns : tie.Need-returns Inv-loop μ-loop
 returns c =
@@ -100,16 +97,16 @@ apart-spec =
     (tie.spec
     Inv-loop
     μ-loop
+    slice-aggregate-name-digests
     name-digests-requires
     loop-holds
     mul-p
     shared-slice-read-p
     mul-asked
     array-read-asked
-    slice-aggregate-any-named
-    add-any-named
-    name-at-requires
-    any-named-requires
+    slice-aggregate-repeated
+    add-repeated
+    repeated-requires
     returns
     add-i
     loop-less

@@ -1,131 +1,67 @@
 use Prim.Native.Nat.{ℕ}
-use mathlib.Core.Path.{_≡_, refl, sym, ap, subst, _∙_}
+use mathlib.Core.Path.{_≡_, refl, ap}
 use mathlib.Core.List.{List}
 use native.Mathlib.Omega.{arith}
-use lib.ListN.{take, getD}
-use borrow.Author.Tests.{not-true, not-false}
-use Rattle.walk.specs.Walk.{plainListing}
+use lib.ListN.{length, getD}
 use Rattle.terms.specs.Terms.{bytesOf}
 use Rattle.terms.proofs.Regions.{bytes-inside}
-use Rattle.strict.specs.Strict.{toldApart}
-use Rattle.checker.specs.Directory.{Passed, apartAt}
-use Rattle.checker.proofs.Answers.{answer-astray, answer-many, answer-alike, answer-accepted, places-long, apart-said, place-inside}
+use Rattle.strict.specs.Strict.{limit, Verdict, verdict}
+use Rattle.checker.specs.Directory.{noPlaces, surveyed, placesIn}
+use Rattle.checker.specs.declared.Surveyed.{Surveyed}
+use Rattle.checker.proofs.Answers.{count-room, place-inside, told-directory}
 use borrow.Author.Needs.{needs}
 use Rattle.checker.proofs.check.Statement.{statement}
 use Rattle.checker.proofs.check.Tie as tie
 
-bytes-requires : tie.Need-bytes-requires
-bytes-requires c κs = search needs
+slice-aggregate-survey : tie.Need-slice-aggregate-survey
+slice-aggregate-survey c = search needs
 
-pass-over-requires : tie.Need-pass-over-requires
-pass-over-requires c κs = search needs
+survey-requires : tie.Need-survey-requires
+survey-requires c κs = search needs
 
--- the function's start, the region's bytes, and what the pass over them says
-abbrev start : tie.After-pass-over → tie.Start
+slice-aggregate-told : tie.Need-slice-aggregate-told
+slice-aggregate-told c = search needs
+
+-- the function's start, and the verdict on the region's bytes
+abbrev start : tie.After-survey → tie.Start
 start c = c .before .before .before
 
-abbrev region : tie.After-pass-over → List ℕ
+abbrev region : tie.After-survey → List ℕ
 region c = bytesOf (start c .args .image .now) (start c .args .region)
 
-says : (c : tie.After-pass-over) → Passed (region c) (start c .args .region .align) (c .pass-over .result)
-says c = subst (λ (x : List ℕ). Passed x (start c .args .region .align) (c .pass-over .result)) (c .before .bytes .ensures .0) (c .pass-over .ensures)
+abbrev says : tie.After-survey → Verdict
+says c = verdict limit (region c) (start c .args .region .align)
 
-add-refused : tie.Need-add-refused
-add-refused c =
-    let t = c .before .before in
-    let p = t .before in
-    let a = start p .args in
-    let good = start p .good in
-    let h = says p .stray (t .if1 .taken) .1 in
-    omega (arith, good, h, bytes-inside (a .image .now) (a .region) (p .pass-over .result .place) h)
+-- what the survey leaves in the array
+stored : (c : tie.After-survey) → c .survey .last .1 .1 .0 ≡ placesIn noPlaces (says c)
+unfolding noPlaces
+stored c = c .survey .ensures .1 .0
 
-refused-requires : tie.Need-refused-requires
-refused-requires c κs = search needs
-
-returns : tie.Need-returns
-returns c =
-    let t = c .before .before .before in
-    let p = t .before in
-    let d = c .refused .ensures in
-    (answer-astray (region p) (start p .args .region .align) (start p .args .region .start) (p .pass-over .result) (says p) (c .refused .result) (t .if1 .taken) d, refl)
-
-refused-requires-2 : tie.Need-refused-requires-2
-refused-requires-2 c κs = search needs
-
-returns-2 : tie.Need-returns-2
-returns-2 c =
-    let e = c .before .before in
-    let p = e .before in
-    let d = c .refused2 .ensures in
-    (answer-many (region p) (start p .args .region .align) (start p .args .region .start) (p .pass-over .result) (says p) (e .if1 .left) (c .refused2 .result) (c .before .if2 .taken) d, refl)
-
-slice-aggregate-apart : tie.Need-slice-aggregate-apart
-slice-aggregate-apart c = search needs
-
-apart-requires : tie.Need-apart-requires
-apart-requires c κs =
-    let f = c .before .before in
-    let e = f .before in
-    let p = e .before in
-    let l = places-long (region p) (start p .args .region .align) (start p .args .region .start) (p .pass-over .result) (says p) (e .if1 .left) (f .if2 .left) in
-    omega (arith, l, f .if2 .left)
-
-refused-requires-3 : tie.Need-refused-requires-3
-refused-requires-3 c κs = search needs
-
--- what the comparison of the names says
-told-apart : (c : tie.After-apart) → toldApart (plainListing (region (c .before .before .before .before .before)) (start (c .before .before .before .before .before) .args .region .align)) ≡ c .apart .result
-told-apart c =
-    let f = c .before .before .before in
-    let e = f .before in
-    let p = e .before in
-    let s = p .pass-over .result in
-    sym (c .apart .ensures ∙ ap (λ (x : List ℕ). apartAt x (take (s .count) (s .places))) (p .before .bytes .ensures .0)
-    ∙ apart-said (region p) (start p .args .region .align) (start p .args .region .start) s (says p) (e .if1 .left) (f .if2 .left))
-
-returns-3 : tie.Need-returns-3
-returns-3 c =
-    let n = c .before .before in
-    let f = n .before .before .before in
-    let e = f .before in
-    let p = e .before in
-    let d = c .refused3 .ensures in
-    (answer-alike (region p) (start p .args .region .align) (start p .args .region .start) (p .pass-over .result) (says p) (e .if1 .left) (f .if2 .left) (c .refused3 .result) (told-apart n ∙ not-true _ (c .before .if3 .taken)) d, refl)
+counted : (c : tie.After-survey) → c .survey .result .count ≡ surveyed (start c .args .region .start) (says c) .count
+counted c = ap (λ (x : Surveyed). x .count) (c .survey .ensures .0)
 
 told-requires : tie.Need-told-requires
 told-requires c κs =
-    let f = c .before .before .before .before in
-    let e = f .before in
-    let p = e .before in
-    let a = start p .args in
-    let good = start p .good in
-    let s = p .pass-over .result in
-    let i = place-inside (region p) (a .region .align) (a .region .start) s (says p) (e .if1 .left) (f .if2 .left) in
-    (f .if2 .left, λ k h. omega (arith, good, i k h, bytes-inside (a .image .now) (a .region) (getD (s .places) k 0) (i k h)))
+    let s = c .before .before in
+    let a = start s .args in
+    let good = start s .good in
+    let n = counted s in (
+      omega (arith, n, ap length (stored s), count-room (region s) (a .region .align) (a .region .start) (says s)),
+      λ k h.
+          let g : getD (s .survey .last .1 .1 .0) k 0 ≡ getD (placesIn noPlaces (says s)) k 0 = ap (λ (x : List ℕ). getD x k 0) (stored s) in
+          let i = place-inside (region s) (a .region .align) (a .region .start) (says s) refl k (omega (arith, n, h)) in
+          omega (arith, good, i, g, bytes-inside (a .image .now) (a .region) (getD (placesIn noPlaces (says s)) k 0) i),
+    )
 
-returns-4 : tie.Need-returns-4
-returns-4 c =
-    let n = c .before .before in
-    let f = n .before .before .before in
-    let e = f .before in
-    let p = e .before in
-    let a = start p .args in
-    (answer-accepted (region p) (a .region .align) (a .region .start) (p .pass-over .result) (says p) (e .if1 .left) (f .if2 .left) (c .told .result) (told-apart n ∙ not-false _ (c .before .if3 .left)) (c .told .ensures), refl)
+returns : tie.Need-returns
+returns c =
+    let t = c .before in
+    let s = t .before .before .before in
+    let a = start s .args in
+    let d = t .told .ensures in
+    (rw (d, s .survey .ensures .0, stored s) (told-directory (region s) (a .region .align) (a .region .start) (says s)), refl)
 
 pub check-spec : {M : Type 1} → statement M
 check-spec =
     tie.close
-    (tie.spec
-    bytes-requires
-    pass-over-requires
-    add-refused
-    refused-requires
-    returns
-    refused-requires-2
-    returns-2
-    slice-aggregate-apart
-    apart-requires
-    refused-requires-3
-    returns-3
-    told-requires
-    returns-4)
+    (tie.spec slice-aggregate-survey survey-requires slice-aggregate-told told-requires returns)

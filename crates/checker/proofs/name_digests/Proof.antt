@@ -1,7 +1,7 @@
 -- The loop's invariant: the digests of the first i names are stored.
 use Prim.Native.Nat.{ℕ, _-_, _≤_}
 use native.Mathlib.Omega.{arith}
-use mathlib.Core.Path.{_≡_, refl, ap, subst, _∙_}
+use mathlib.Core.Path.{_≡_, sym, ap, subst, _∙_}
 use Rattle.checker.specs.Directory.{digestOf, NameDigests}
 use Rattle.checker.proofs.Names.{digests-none, digests-on}
 use borrow.Author.Needs.{needs}
@@ -15,7 +15,7 @@ abbrev μ-loop : tie.MeasureT-loop
 μ-loop r places n digests₀ i₀ digests i = n - i
 
 loop-holds : tie.Need-loop-holds Inv-loop μ-loop
-loop-holds c = let a = c .before .before .args in (omega arith, digests-none (a .r .now) (a .places .now) _ refl)
+loop-holds c = let s = c .before .before .before in (omega arith, digests-none (s .args .r .now) (s .args .places .now) _ (s .pre .2))
 
 mul-p : tie.Need-mul-p Inv-loop μ-loop
 mul-p c = search needs
@@ -32,8 +32,8 @@ digest-requires c κs = search needs
 mul-digests : tie.Need-mul-digests Inv-loop μ-loop
 mul-digests c = search needs
 
-array-write-digests : tie.Need-array-write-digests Inv-loop μ-loop
-array-write-digests c = search needs
+slice-write-digests : tie.Need-slice-write-digests Inv-loop μ-loop
+slice-write-digests c = search needs
 
 add-i : tie.Need-add-i Inv-loop μ-loop
 add-i c = search needs
@@ -44,13 +44,18 @@ loop-less c = search needs
 loop-again : tie.Need-loop-again Inv-loop μ-loop
 loop-again c =
     let l = c .before .before .before .before in
-    let a = l .before .before .before .args in
-    (omega arith, digests-on (a .r .now) (a .places .now) (l .loop .digests) (l .loop .i) (c .digest .result) (omega arith) (c .digest .ensures ∙ ap digestOf (c .before .name-at .ensures)) (l .loop .inv .1))
+    let a = l .before .before .before .before .args in
+    let digest = c .digest .ensures ∙ ap digestOf (c .before .name-at .ensures) in
+    let on = digests-on (a .r .now) (a .places .now) (l .loop .digests) (l .loop .i) (c .digest .result) (omega arith) (omega arith) digest (l .loop .inv .1) in
+    (omega arith, on)
+
+same-length : tie.Need-same-length Inv-loop μ-loop
+same-length c = let l = c .before in l .loop .inv .1 .wide ∙ sym (l .before .before .before .before .pre .2)
 
 returns : tie.Need-returns Inv-loop μ-loop
 returns c =
     let l = c .before in
-    let a = l .before .before .before .args in
+    let a = l .before .before .before .before .args in
     let e : l .loop .i ≡ a .n = omega arith in
     subst (λ (k : ℕ). NameDigests (a .r .now) (a .places .now) k (l .loop .digests)) e (l .loop .inv .1)
 
@@ -66,8 +71,9 @@ name-digests-spec =
     name-at-requires
     digest-requires
     mul-digests
-    array-write-digests
+    slice-write-digests
     add-i
     loop-less
     loop-again
+    same-length
     returns)

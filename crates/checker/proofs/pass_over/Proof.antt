@@ -7,14 +7,13 @@ use Rattle.component.specs.Component.{judge, judged}
 use Rattle.component.specs.declared.Judged.the-variants.{WellFormed}
 use Rattle.walk.proofs.Stepping.{fields-said, header-fits}
 use Rattle.strict.specs.Strict.{refused}
-use Rattle.checker.specs.Directory.{noPlaces}
 use Rattle.checker.proofs.Passes.{Passing, pass-start, pass-few, pass-end, pass-ill, pass-buried, pass-on, pass-later}
 use borrow.Author.Needs.{needs}
 use Rattle.checker.proofs.pass_over.Statement.{statement}
 use Rattle.checker.proofs.pass_over.Tie as tie
 
 abbrev Inv-loop : tie.InvT-loop
-Inv-loop r align places₀ n₀ p₀ places n p = Passing r align places n p
+Inv-loop r align places₀ n₀ p₀ places n p = Passing r align places₀ places n p
 
 abbrev μ-loop : tie.MeasureT-loop
 μ-loop r align places₀ n₀ p₀ places n p = length r - p
@@ -23,10 +22,9 @@ next-magic-requires : tie.Need-next-magic-requires Inv-loop μ-loop
 next-magic-requires c κs = search needs
 
 loop-holds : tie.Need-loop-holds Inv-loop μ-loop
-unfolding noPlaces
 loop-holds c =
-    let a = c .before .before .args in
-    pass-start (a .r .now) (a .align) (c .next-magic .result) (c .next-magic .ensures .0)
+    let a = c .before .before .before .args in
+    pass-start (a .r .now) (a .align) (a .places .now) (c .next-magic .result) (c .next-magic .ensures .0)
 
 sub-fields : tie.Need-sub-fields Inv-loop μ-loop
 sub-fields c = search needs
@@ -45,7 +43,7 @@ abbrev loop : tie.After-fields Inv-loop μ-loop → tie.At-loop Inv-loop μ-loop
 loop c = c .before .before .before
 
 abbrev start : tie.At-loop Inv-loop μ-loop → tie.Start Inv-loop μ-loop
-start c = c .before .before .before
+start c = c .before .before .before .before
 
 inside : (c : tie.After-fields Inv-loop μ-loop) → loop c .loop .p < length (start (loop c) .args .r .now)
 inside c = c .before .before .loop-test .taken
@@ -54,10 +52,12 @@ inside c = c .before .before .loop-test .taken
 said : (c : tie.After-fields Inv-loop μ-loop) → judged (judge (drop (loop c .loop .p) (start (loop c) .args .r .now))) ≡ c .fields .result
 said c = fields-said (start (loop c) .args .r .now) (loop c .loop .p) (loop c .loop .inv .checked .found (inside c) .2) (c .fields .ensures .0)
 
-header : (c : tie.After-j Inv-loop μ-loop) → judged (judge (drop (loop (c .before .before) .loop .p) (start (loop (c .before .before)) .args .r .now))) ≡ WellFormed (c .j .given .0 .0)
+header : (c : tie.After-j Inv-loop μ-loop) → let l = loop (c .before .before) in
+    judged (judge (drop (l .loop .p) (start l .args .r .now))) ≡ WellFormed (c .j .given .0 .0)
 header c = said (c .before .before) ∙ c .j .given .1
 
-fits : (c : tie.After-j Inv-loop μ-loop) → (0 < c .j .given .0 .0 .offset) × (loop (c .before .before) .loop .p + (c .j .given .0 .0 .offset + c .j .given .0 .0 .len) ≤ length (start (loop (c .before .before)) .args .r .now))
+fits : (c : tie.After-j Inv-loop μ-loop) → let l = loop (c .before .before) in let h = c .j .given .0 .0 in
+    (0 < h .offset) × (l .loop .p + (h .offset + h .len) ≤ length (start l .args .r .now))
 fits c = header-fits _ (loop (c .before .before) .loop .p) _ (header c)
 
 enum-known-j : tie.Need-enum-known-j Inv-loop μ-loop
@@ -75,6 +75,9 @@ next-after-requires c κs = search needs
 astray-requires : tie.Need-astray-requires Inv-loop μ-loop
 astray-requires c κs = search needs
 
+same-length : tie.Need-same-length Inv-loop μ-loop
+same-length c = loop (c .before .before .before .before .before .before .before) .loop .inv .long
+
 returns : tie.Need-returns Inv-loop μ-loop
 returns c =
     let q = c .before .before in
@@ -82,23 +85,20 @@ returns c =
     let f = j .before .before in
     let l = loop f in
     let a = start l .args in
-    let b = pass-buried (a .r .now) (a .align) (l .loop .places) (l .loop .n) (l .loop .p) (l .loop .inv) (inside f) _ (header j) (q .next-after .result) (q .next-after .ensures .0) (c .before .if1 .taken) in
+    let b = pass-buried (l .loop .inv) (inside f) (header j) (q .next-after .result) (q .next-after .ensures .0) (c .before .if1 .taken) in
     let s = c .astray .ensures in
-    record { stray = λ _. (b .0 ∙ ap (refused 12) (sym (s .1)), omega (arith, b .1, s .1)); clean = λ e. absurd (true≢false (sym (s .0) ∙ e)) }
-
-slice-aggregate-store : tie.Need-slice-aggregate-store Inv-loop μ-loop
-slice-aggregate-store c = search needs
+    record { stray = λ _. ((λ m. b .0 m ∙ ap (refused 12) (sym (s .1))), omega (arith, b .1, s .1)); clean = λ e. absurd (true≢false (sym (s .0) ∙ e)) }
 
 store-requires : tie.Need-store-requires Inv-loop μ-loop
 store-requires c κs = search needs
 
 add-n : tie.Need-add-n Inv-loop μ-loop
 add-n c =
-    let e = c .before .before .before in
+    let e = c .before .before .before .before in
     let j = e .before .before .before .before in
     let l = loop (j .before .before) in
     let a = start l .args in
-    omega (arith, pass-few (a .r .now) (a .align) (l .loop .places) (l .loop .n) (l .loop .p) (l .loop .inv), inside (j .before .before))
+    omega (arith, pass-few (l .loop .inv), inside (j .before .before))
 
 onward-requires : tie.Need-onward-requires Inv-loop μ-loop
 onward-requires c κs = search needs
@@ -109,24 +109,26 @@ next-magic-requires-2 c κs = search needs
 loop-less : tie.Need-loop-less Inv-loop μ-loop
 loop-less c =
     let w = c .before in
-    let e = w .before .before .before .before in
+    let e = w .before .before .before .before .before in
     let j = e .before .before .before .before in
     let f = j .before .before in
     let l = loop f in
     let a = start l .args in
-    omega (arith, inside f, pass-later (a .r .now) (a .align) (l .loop .places) (l .loop .n) (l .loop .p) (l .loop .inv) (inside f) _ (header j) (w .onward .result) (c .next-magic2 .result) (w .onward .ensures .0) (c .next-magic2 .ensures .0))
+    let later = pass-later (l .loop .inv) (inside f) (header j) (w .onward .result) (c .next-magic2 .result) in
+    omega (arith, inside f, later (w .onward .ensures .0) (c .next-magic2 .ensures .0))
 
 loop-again : tie.Need-loop-again Inv-loop μ-loop
 loop-again c =
     let w = c .before in
-    let s = w .before .before in
+    let s = w .before .before .before in
     let e = s .before .before in
     let q = e .before in
     let j = q .before .before .before in
     let f = j .before .before in
     let l = loop f in
     let a = start l .args in
-    pass-on (a .r .now) (a .align) (l .loop .places) (l .loop .n) (l .loop .p) (l .loop .inv) (inside f) _ (header j) (q .next-after .result) (w .onward .result) (c .next-magic2 .result) _ (q .next-after .ensures .0) (e .if1 .left) (w .onward .ensures .0) (c .next-magic2 .ensures .0) (s .store .ensures)
+    let on = pass-on (l .loop .inv) (inside f) (header j) (q .next-after .result) (w .onward .result) (c .next-magic2 .result) _ in
+    on (q .next-after .ensures .0) (e .if1 .left) (w .onward .ensures .0) (c .next-magic2 .ensures .0) (s .store .ensures)
 
 enum-told : tie.Need-enum-told Inv-loop μ-loop
 enum-told c = search needs
@@ -134,20 +136,26 @@ enum-told c = search needs
 astray-requires-2 : tie.Need-astray-requires-2 Inv-loop μ-loop
 astray-requires-2 c κs = search needs
 
+same-length-2 : tie.Need-same-length-2 Inv-loop μ-loop
+same-length-2 c = loop (c .before .before .before) .loop .inv .long
+
 returns-2 : tie.Need-returns-2 Inv-loop μ-loop
 returns-2 c =
     let f = c .before .before .before in
     let l = loop f in
     let a = start l .args in
-    let b = pass-ill (a .r .now) (a .align) (l .loop .places) (l .loop .n) (l .loop .p) (l .loop .inv) (inside f) (said f ∙ c .before .enum-told .given .1) in
+    let b = pass-ill (l .loop .inv) (inside f) (said f ∙ c .before .enum-told .given .1) in
     let s = c .astray2 .ensures in
-    record { stray = λ _. (b ∙ ap (refused 12) (sym (s .1)), omega (arith, inside f, s .1)); clean = λ e. absurd (true≢false (sym (s .0) ∙ e)) }
+    record { stray = λ _. ((λ m. b m ∙ ap (refused 12) (sym (s .1))), omega (arith, inside f, s .1)); clean = λ e. absurd (true≢false (sym (s .0) ∙ e)) }
+
+same-length-3 : tie.Need-same-length-3 Inv-loop μ-loop
+same-length-3 c = c .before .loop .inv .long
 
 returns-3 : tie.Need-returns-3 Inv-loop μ-loop
 returns-3 c =
     let l = c .before in
     let a = start l .args in
-    record { stray = λ e. absurd (false≢true e); clean = λ _. pass-end (a .r .now) (a .align) (l .loop .places) (l .loop .n) (l .loop .p) (l .loop .inv) (c .loop-test .left) }
+    record { stray = λ e. absurd (false≢true e); clean = λ _. pass-end (l .loop .inv) (c .loop-test .left) }
 
 pub pass-over-spec : {M : Type 1} → statement M
 pass-over-spec =
@@ -166,8 +174,8 @@ pass-over-spec =
     add-e-2
     next-after-requires
     astray-requires
+    same-length
     returns
-    slice-aggregate-store
     store-requires
     add-n
     onward-requires
@@ -176,5 +184,7 @@ pass-over-spec =
     loop-again
     enum-told
     astray-requires-2
+    same-length-2
     returns-2
+    same-length-3
     returns-3)

@@ -5,7 +5,7 @@ use mathlib.Core.Path.{_≡_, sym, ap, _∙_}
 use mathlib.Core.Bool.{true, false}
 use mathlib.Core.Option.{none}
 use native.Mathlib.Omega.{arith}
-use lib.ListN.{length}
+use lib.ListN.{length, length-map}
 use borrow.Author.Tests.{not-true, not-false}
 use Rattle.component.specs.Names.{nameFits}
 use Rattle.number.specs.Lists.{any}
@@ -16,7 +16,7 @@ use Rattle.room.specs.Room.{roomFor}
 use Rattle.decide.specs.Code.{choice}
 use Rattle.decide.specs.declared.Choice.the-variants.{Write, Refuse}
 use Rattle.edit.proofs.Written.{name-fit, field-most, length-span}
-use Rattle.decide.proofs.Choosing.{long-nowhere, room-some, room-none, chose-14, chose-15, chose-13, chose-16, chose-17, chose-write}
+use Rattle.decide.proofs.Choosing.{used-by, run-by, long-nowhere, room-some, room-none, chose-14, chose-15, chose-13, chose-16, chose-17, chose-write}
 use borrow.Author.Needs.{needs}
 use Rattle.decide.proofs.choose_add.Statement.{statement}
 use Rattle.decide.proofs.choose_add.Tie as tie
@@ -29,16 +29,22 @@ refuse-requires c κs = search needs
 
 -- what the tests say
 abbrev start : tie.After-name-fits → tie.Start
-start c = c .before .before .before .before
+start c = c .before .before .before .before .before
+
+counted : (s : tie.Start) → length (s .args .ps .now) ≡ length (plainListing (s .args .r .now) (s .args .align))
+counted s = ap length (s .pre) ∙ length-map (plainListing (s .args .r .now) (s .args .align)) (λ t. t .place)
 
 named : (c : tie.Else1) → nameFits (start (c .before) .args .name .now) ≡ true
 named c = sym (c .before .name-fits .ensures .0) ∙ not-false _ (c .if1 .left)
 
-unused : (c : tie.Else2) → let a = start (c .before .before .before) .args in any (bears (a .name .now)) (plainListing (a .r .now) (a .align)) ≡ false
-unused c = sym (c .before .used .ensures .0) ∙ c .if2 .left
+taken : (c : tie.After-used) → let a = start (c .before .before) .args in c .used .result ≡ any (bears (a .name .now)) (plainListing (a .r .now) (a .align))
+taken c = let s = start (c .before .before) in let a = s .args in used-by (a .r .now) (a .align) (a .ps .now) (s .pre) (a .name .now) (c .used .ensures .0)
 
-few : (c : tie.Else3) → let a = start (c .before .before .before .before) .args in length (plainListing (a .r .now) (a .align)) < 256
-few c = omega (arith, c .if3 .left, start (c .before .before .before .before) .pre)
+unused : (c : tie.Else2) → let a = start (c .before .before .before) .args in any (bears (a .name .now)) (plainListing (a .r .now) (a .align)) ≡ false
+unused c = sym (taken (c .before)) ∙ c .if2 .left
+
+few : (c : tie.Else3) → let a = start (c .before .before .before .before) .args in length (plainListing (a .r .now) (a .align)) < limit
+few c = omega (arith, c .if3 .left, counted (start (c .before .before .before .before)))
 
 short : (c : tie.Else1) → length (start (c .before) .args .name .now) ≤ 255
 short c = name-fit _ (named c) .short
@@ -64,8 +70,9 @@ nowhere c e s =
 
 found : (c : tie.After-free-run) → let a = start (one (c .before .before) .before) .args in
     c .free-run .result ≡ roomFor (a .kind) (lowest (length (spanBytes (a .name .now) (a .kind) (a .content .now))) (freeRuns (a .r .now) (a .align)))
-found c = let a = start (one (c .before .before) .before) .args in
-    c .free-run .ensures .0 ∙ ap (λ (n : ℕ). roomFor (a .kind) (lowest n (freeRuns (a .r .now) (a .align)))) (spans (c .before .before))
+found c = let s = start (one (c .before .before) .before) in let a = s .args in
+    run-by (a .r .now) (a .align) (a .ps .now) (s .pre) (a .kind) _ (c .free-run .ensures .0)
+    ∙ ap (λ (n : ℕ). roomFor (a .kind) (lowest n (freeRuns (a .r .now) (a .align)))) (spans (c .before .before))
 
 returns : tie.Need-returns
 returns c =
@@ -83,7 +90,8 @@ returns-2 : tie.Need-returns-2
 returns-2 c =
     λ s. let u = c .before .before in
     let a = start (u .before .before) .args in
-    c .refuse2 .ensures ∙ chose-15 (a .r .now) (a .align) (a .name .now) (a .kind) (a .content .now) s (named (u .before)) (sym (u .used .ensures .0) ∙ c .before .if2 .taken)
+    let borne = sym (taken u) ∙ c .before .if2 .taken in
+    c .refuse2 .ensures ∙ chose-15 (a .r .now) (a .align) (a .name .now) (a .kind) (a .content .now) s (named (u .before)) borne
 
 refuse-requires-3 : tie.Need-refuse-requires-3
 refuse-requires-3 c κs = search needs
@@ -93,7 +101,8 @@ returns-3 c =
     λ s. let e = c .before .before in
     let st = start (e .before .before .before) in
     let a = st .args in
-    c .refuse3 .ensures ∙ chose-13 (a .r .now) (a .align) (a .name .now) (a .kind) (a .content .now) s (named (e .before .before)) (unused e) (omega (arith, c .before .if3 .taken, st .pre))
+    let many : limit ≤ length (plainListing (a .r .now) (a .align)) = omega (arith, c .before .if3 .taken, counted st) in
+    c .refuse3 .ensures ∙ chose-13 (a .r .now) (a .align) (a .name .now) (a .kind) (a .content .now) s (named (e .before .before)) (unused e) many
 
 buries-requires : tie.Need-buries-requires
 buries-requires c κs = short (c .before .before .before)

@@ -1,5 +1,5 @@
-use mathlib.Core.Path.{sym, _∙_}
-use Rattle.decide.proofs.Choosing.{cleared, cleared-10}
+use mathlib.Core.Path.{sym, ap, _∙_}
+use Rattle.decide.specs.Code.{removal}
 use borrow.Author.Needs.{needs}
 use Rattle.decide.proofs.choose_remove.Statement.{statement}
 use Rattle.decide.proofs.choose_remove.Tie as tie
@@ -17,15 +17,13 @@ refuse-requires : tie.Need-refuse-requires
 refuse-requires c κs = search needs
 
 returns : tie.Need-returns
-returns c =
-    λ s. let w = c .before .before .before in
-    cleared s _ _ (sym (w .slot-of .ensures .0) ∙ c .before .x .given .1)
+returns c = let w = c .before .before .before in ap removal (sym (c .before .x .given .1) ∙ w .slot-of .ensures .0)
 
 returns-2 : tie.Need-returns-2
 returns-2 c =
-    λ s. let t = c .before in
+    let t = c .before in
     let w = t .before .before in
-    c .refuse .ensures ∙ cleared-10 s _ (sym (w .slot-of .ensures .0) ∙ t .enum-told .given .1)
+    c .refuse .ensures ∙ ap removal (sym (t .enum-told .given .1) ∙ w .slot-of .ensures .0)
 
 pub choose-remove-spec : {M : Type 1} → statement M
 choose-remove-spec =

@@ -9,7 +9,7 @@ use Rattle.edit.specs.Edit.{spanBytes, buries, holds, slotOf}
 use Rattle.room.specs.Room.{run, roomOf}
 use Rattle.room.specs.declared.Room.the-variants.{Within}
 use Rattle.edit.proofs.Written.{field-most, length-span}
-use Rattle.decide.proofs.Choosing.{renewed-10, renewed-16, renewed-17, renewed, room-short, long-unheld}
+use Rattle.decide.proofs.Choosing.{slot-by, renewed-10, renewed-16, renewed-17, renewed, room-short, long-unheld}
 use borrow.Author.Needs.{needs}
 use Rattle.decide.proofs.choose_replace.Statement.{statement}
 use Rattle.decide.proofs.choose_replace.Tie as tie
@@ -28,7 +28,12 @@ enum-known-x c = search needs
 
 -- what the tests say
 abbrev start : tie.After-slot-of → tie.Start
-start c = c .before .before .before .before
+start c = c .before .before .before .before .before
+
+-- the slot as the code has it
+slot : (c : tie.After-slot-of) → let a = start c .args in
+    c .slot-of .result ≡ roomOf (slotOf (length (a .r .now)) (a .name .now) (plainListing (a .r .now) (a .align)))
+slot c = let a = start c .args in slot-by (a .r .now) (a .align) (a .ps .now) (start c .pre) (a .name .now) (c .slot-of .ensures .0)
 
 abbrev told : tie.After-offset-for → tie.After-known-told
 told c = c .before .before .before
@@ -36,7 +41,7 @@ told c = c .before .before .before
 -- the slot that was found
 within : (c : tie.After-known-told) → let a = start (c .before .before .before) .args in
     roomOf (slotOf (length (a .r .now)) (a .name .now) (plainListing (a .r .now) (a .align))) ≡ Within (c .before .x .given .0 .0)
-within c = sym (c .before .before .before .slot-of .ensures .0) ∙ c .before .x .given .1
+within c = sym (slot (c .before .before .before)) ∙ c .before .x .given .1
 
 short : (c : tie.After-known-told) → length (start (c .before .before .before) .args .name .now) ≤ 255
 short c = let a = start (c .before .before .before) .args in room-short (a .r .now) (a .align) (a .name .now) _ (within c)
@@ -66,7 +71,7 @@ refuse-requires-2 c κs = search needs
 
 returns : tie.Need-returns
 returns c =
-    λ s. let b = c .before .before in
+    λ s k. let b = c .before .before in
     let k = b .before in
     let a = start (k .before .before .before) .args in
     c .refuse2 .ensures ∙ renewed-16 s _ (a .align) (a .name .now) (a .content .now) _ (within k) (sym (b .buries .ensures) ∙ c .before .if1 .taken)
@@ -82,7 +87,7 @@ refuse-requires-3 c κs = search needs
 
 returns-2 : tie.Need-returns-2
 returns-2 c =
-    λ s. let f = c .before .before in
+    λ s k. let f = c .before .before in
     let k = told f in
     let a = start (k .before .before .before) .args in
     c .refuse3 .ensures ∙ renewed-17 s _ (a .align) (a .name .now) (a .content .now) _ (within k) (clean (f .before)) (long-unheld (length (spanBytes (a .name .now) (k .before .x .given .0 .0 .kind) (a .content .now))) _ (omega (arith, spans f, c .before .if2 .taken, most f)))
@@ -98,7 +103,7 @@ refuse-requires-4 c κs = search needs
 
 returns-3 : tie.Need-returns-3
 returns-3 c =
-    λ s. let h = c .before .before in
+    λ s k. let h = c .before .before in
     let f = h .before .before in
     let k = told f in
     let a = start (k .before .before .before) .args in
@@ -106,14 +111,14 @@ returns-3 c =
 
 returns-4 : tie.Need-returns-4
 returns-4 c =
-    λ s. let t = c .before in
+    λ s k. let t = c .before in
     let w = t .before .before in
     let a = start w .args in
-    c .refuse .ensures ∙ renewed-10 s _ (a .align) (a .name .now) (a .content .now) (sym (w .slot-of .ensures .0) ∙ t .enum-told .given .1)
+    c .refuse .ensures ∙ renewed-10 s _ (a .align) (a .name .now) (a .content .now) (sym (slot w) ∙ t .enum-told .given .1)
 
 returns-5 : tie.Need-returns-5
 returns-5 c =
-    λ s. let h = c .before in
+    λ s k. let h = c .before in
     let f = h .before .before in
     let k = told f in
     let a = start (k .before .before .before) .args in

@@ -1,94 +1,85 @@
-use Prim.Native.Nat.{_-_}
-use mathlib.Core.Bool.{false}
+-- The loop's invariant: no run before the one that begins at `from` and goes up to the i-th place holds the span.
+use Prim.Native.Nat.{ℕ, _+_, _-_, _<_}
 use mathlib.Core.Path.{_≡_, refl, sym, ap, _∙_}
-use native.Mathlib.Omega.{arith}
-use lib.ListN.{length}
-use Rattle.walk.specs.Walk.{plain, step, listingFrom, told}
-use Rattle.walk.specs.declared.Step.the-variants.{Took}
-use Rattle.walk.proofs.Standing.{took-inside}
-use Rattle.edit.specs.Edit.{runs, freeRuns, lowest}
-use Rattle.room.specs.Room.{roomFor}
-use Rattle.room.proofs.Finding.{runs-told-last, runs-past, runs-here, runs-on}
+use mathlib.Core.List.{[], _∷_}
+use lib.ListN.{length, drop}
+use Rattle.walk.specs.Walk.{onward}
+use Rattle.edit.specs.Edit.{lowest}
+use Rattle.room.specs.Room.{run, roomFor, runsBetween}
+use Rattle.room.proofs.Finding.{runs-end, runs-here, runs-on}
 use borrow.Author.Needs.{needs}
 use Rattle.room.proofs.free_run.Statement.{statement}
 use Rattle.room.proofs.free_run.Tie as tie
 
 abbrev Inv-loop : tie.InvT-loop
-Inv-loop r align n kind from₀ from = lowest n (freeRuns r align) ≡ lowest n (runs r align from (listingFrom (plain r) r align from))
+Inv-loop r align ps n kind from₀ i₀ from i = lowest n (runsBetween r align 0 ps) ≡ lowest n (runsBetween r align from (drop i ps))
 
 abbrev μ-loop : tie.MeasureT-loop
-μ-loop r align n kind from₀ from = length r - from
+μ-loop r align ps n kind from₀ i₀ from i = length ps - i
+
+-- the places where the paths begin
+abbrev start : tie.At-loop Inv-loop μ-loop → tie.Start Inv-loop μ-loop
+start c = c .before .before .before
+
+abbrev loop : tie.After-holds Inv-loop μ-loop → tie.At-loop Inv-loop μ-loop
+loop c = c .before .before .before
+
+inside : (c : tie.After-holds Inv-loop μ-loop) → loop c .loop .i < length (start (loop c) .args .ps .now)
+inside c = c .before .before .loop-test .taken
 
 loop-holds : tie.Need-loop-holds Inv-loop μ-loop
 loop-holds c = refl
 
-plain-step-requires : tie.Need-plain-step-requires Inv-loop μ-loop
-plain-step-requires c κs = search needs
+mul-p : tie.Need-mul-p Inv-loop μ-loop
+mul-p c = search needs
 
-enum-told : tie.Need-enum-told Inv-loop μ-loop
-enum-told c = search needs
-
--- the places where the paths begin
-abbrev loop : tie.After-plain-step Inv-loop μ-loop → tie.At-loop Inv-loop μ-loop
-loop c = c .before .before
-
-abbrev start : tie.At-loop Inv-loop μ-loop → tie.Start Inv-loop μ-loop
-start c = c .before .before
-
-said : (c : tie.After-s Inv-loop μ-loop) →
-    let l = loop (c .before .before) in
-    let a = start l .args in
-    told (a .r .now) (a .align) (step (plain (a .r .now)) (a .r .now) (a .align) (l .loop .from)) ≡ Took (c .s .given .0 .0)
-said c = sym (c .before .before .plain-step .ensures .0) ∙ c .s .given .1
-
-last-room-requires : tie.Need-last-room-requires Inv-loop μ-loop
-last-room-requires c κs = search needs
-
-returns : tie.Need-returns Inv-loop μ-loop
-returns c =
-    let t = c .before in
-    let w = t .before .before in
-    let l = loop w in
-    let a = start l .args in
-    (c .last-room .ensures ∙ sym (ap (roomFor (a .kind)) (l .loop .inv ∙ runs-told-last (a .r .now) (a .align) (a .n) (l .loop .from) (sym (w .plain-step .ensures .0) ∙ t .enum-told .given .1))), refl)
-
-enum-known-s : tie.Need-enum-known-s Inv-loop μ-loop
-enum-known-s c = search needs
+shared-slice-read-p : tie.Need-shared-slice-read-p Inv-loop μ-loop
+shared-slice-read-p c = search needs
 
 holds-requires : tie.Need-holds-requires Inv-loop μ-loop
 holds-requires c κs = search needs
 
-returns-2 : tie.Need-returns-2 Inv-loop μ-loop
-returns-2 c =
+returns : tie.Need-returns Inv-loop μ-loop
+returns c =
     let h = c .before in
-    let s = h .before .before in
-    let l = loop (s .before .before) in
+    let l = loop h in
     let a = start l .args in
-    (sym (ap (roomFor (a .kind)) (l .loop .inv ∙ runs-here (a .r .now) (a .align) (a .n) (l .loop .from) _ (said s) (sym (h .holds .ensures) ∙ c .if1 .taken))), refl)
+    let here = runs-here (a .r .now) (a .ps .now) (l .loop .i) (a .align) (a .n) (l .loop .from) (inside h) (sym (h .holds .ensures) ∙ c .if1 .taken) in
+    (sym (ap (roomFor (a .kind)) (l .loop .inv ∙ here)), (refl, refl))
+
+span-end-requires : tie.Need-span-end-requires Inv-loop μ-loop
+span-end-requires c κs = search needs
+
+onward-requires : tie.Need-onward-requires Inv-loop μ-loop
+onward-requires c κs = search needs
+
+add-i : tie.Need-add-i Inv-loop μ-loop
+add-i c = search needs
 
 loop-less : tie.Need-loop-less Inv-loop μ-loop
-loop-less c =
-    let s = c .before .before .before in
-    let l = loop (s .before .before) in
-    let a = start l .args in
-    omega (arith, s .before .before .before .loop-test .taken, took-inside false (a .r .now) (a .align) (l .loop .from) _ (said s) .1)
+loop-less c = search needs
 
 loop-again : tie.Need-loop-again Inv-loop μ-loop
 loop-again c =
-    let h = c .before in
-    let s = h .before .before in
-    let l = loop (s .before .before) in
+    let w = c .before in
+    let e = w .before in
+    let h = e .before in
+    let l = loop h in
     let a = start l .args in
-    l .loop .inv ∙ runs-on (a .r .now) (a .align) (a .n) (l .loop .from) _ (said s) (sym (h .holds .ensures) ∙ c .if1 .left)
+    let from = c .onward .ensures .0 ∙ ap (onward (a .r .now) (a .align)) (w .span-end .ensures) in
+    l .loop .inv ∙ runs-on (a .r .now) (a .ps .now) (l .loop .i) (a .align) (a .n) (l .loop .from) (inside h) (sym (h .holds .ensures) ∙ e .if1 .left)
+    ∙ ap (λ (m : ℕ). lowest (a .n) (runsBetween (a .r .now) (a .align) m (drop (l .loop .i + 1) (a .ps .now)))) (sym from)
 
-last-room-requires-2 : tie.Need-last-room-requires-2 Inv-loop μ-loop
-last-room-requires-2 c κs = search needs
+last-room-requires : tie.Need-last-room-requires Inv-loop μ-loop
+last-room-requires c κs = search needs
 
-returns-3 : tie.Need-returns-3 Inv-loop μ-loop
-returns-3 c =
+returns-2 : tie.Need-returns-2 Inv-loop μ-loop
+returns-2 c =
     let l = c .before .before in
     let a = start l .args in
-    (c .last-room2 .ensures ∙ sym (ap (roomFor (a .kind)) (l .loop .inv ∙ runs-past (a .r .now) (a .align) (a .n) (l .loop .from) (c .before .loop-test .left))), refl)
+    let none-left = runs-end (a .r .now) (a .ps .now) (l .loop .i) (a .align) (a .n) (l .loop .from) (c .before .loop-test .left) in
+    let last : c .last-room .result ≡ roomFor (a .kind) (lowest (a .n) (run (l .loop .from) (length (a .r .now)) ∷ [])) = c .last-room .ensures in
+    (last ∙ sym (ap (roomFor (a .kind)) (l .loop .inv ∙ none-left)), (refl, refl))
 
 pub free-run-spec : {M : Type 1} → statement M
 free-run-spec =
@@ -97,14 +88,14 @@ free-run-spec =
     Inv-loop
     μ-loop
     loop-holds
-    plain-step-requires
-    enum-told
-    last-room-requires
-    returns
-    enum-known-s
+    mul-p
+    shared-slice-read-p
     holds-requires
-    returns-2
+    returns
+    span-end-requires
+    onward-requires
+    add-i
     loop-less
     loop-again
-    last-room-requires-2
-    returns-3)
+    last-room-requires
+    returns-2)

@@ -1,0 +1,33 @@
+-- Worked values over the region of bench image A, whose components stand at 0 (cal/12, up to 140) and at 192 (cal/13, up to 256): by its places, and by others.
+use mathlib.Core.Path.{_≡_, refl}
+use mathlib.Core.List.{[], _∷_}
+use Rattle.number.specs.Number.{be, beBytes}
+use Rattle.number.specs.Bytes.{eqBytes}
+use Rattle.number.specs.Tests.{all}
+use Rattle.bench_image.specs.BenchImage.{larchive, cal, head, slot0, slot192, region, regionA}
+use Rattle.component.specs.Names.{nameTests, nameFits, beforeZero, fieldTests, fieldFits}
+use Rattle.component.specs.Component.{magic, startsWithMagic, componentOf, headerTests, wellFormed, fields, judge}
+use Rattle.walk.specs.Walk.{placesBelow, onward}
+use Rattle.checker.specs.Directory.{named}
+use Rattle.room.specs.Room.{run, spaceOf, spanEnd, runsBetween, slotAmong}
+use Rattle.room.specs.declared.Room.the-variants.{Within, Nowhere}
+
+ends : spanEnd regionA 0 ∷ spanEnd regionA 192 ∷ spanEnd regionA 5000 ∷ [] ≡ 140 ∷ 256 ∷ 5000 ∷ []
+unfolding be beBytes larchive cal head slot0 slot192 region
+ends = refl
+
+-- By the places of both, of one, of none, and by one behind the region's end.
+between : runsBetween regionA 64 0 (0 ∷ 192 ∷ []) ∷ runsBetween regionA 64 0 (192 ∷ []) ∷ runsBetween regionA 64 0 []
+    ∷ runsBetween regionA 64 0 (5000 ∷ []) ∷ []
+    ≡ (run 0 0 ∷ run 192 192 ∷ run 256 3072 ∷ []) ∷ (run 0 192 ∷ run 256 3072 ∷ []) ∷ (run 0 3072 ∷ [])
+    ∷ (run 0 5000 ∷ run 3072 3072 ∷ []) ∷ []
+unfolding be beBytes larchive cal head slot0 slot192 region placesBelow onward runsBetween
+between = refl
+
+-- cal/12's slot goes up to the next place, whichever that is; cal/13's up to the end. A place without a component is passed over.
+slots : slotAmong regionA (cal 0x32) (0 ∷ 192 ∷ []) ∷ slotAmong regionA (cal 0x32) (0 ∷ [])
+    ∷ slotAmong regionA (cal 0x33) (64 ∷ 192 ∷ []) ∷ slotAmong regionA (cal 0x34) (0 ∷ 192 ∷ []) ∷ []
+    ≡ Within (spaceOf (run 0 192) 0xFFFFFFFF) ∷ Within (spaceOf (run 0 3072) 0xFFFFFFFF)
+    ∷ Within (spaceOf (run 192 3072) 0xFFFFFFFF) ∷ Nowhere ∷ []
+unfolding be beBytes larchive cal head slot0 slot192 region eqBytes all nameTests nameFits beforeZero fieldTests fieldFits magic startsWithMagic componentOf headerTests wellFormed fields judge named slotAmong
+slots = refl
