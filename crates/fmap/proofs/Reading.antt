@@ -4,30 +4,39 @@ use native.Mathlib.Omega.{arith}
 use mathlib.Core.Path.{_≡_, refl, sym, _∙_}
 use mathlib.Core.Bool.{Bool, true, false}
 use mathlib.Core.List.{List, [], _∷_, _++_}
-use lib.ListN.{length, getD, replicate}
+use lib.ListN.{length, getD}
 use lib.Dec.{leb}
 use borrow.Author.Tests.{leb-true, lt-leb, le-leb, eq-eqb, ne-eqb}
 use Rattle.number.proofs.Passing.{passes}
 use Rattle.number.specs.Lists.{any, noTwo, padded}
-use Rattle.number.proofs.Padding.{padded-none}
 use Rattle.terms.specs.Refusals.{Test, test, firstFailed, lengthFits}
 use Rattle.terms.proofs.Orders.{numbered, all-passed, first-here, first-later, first-both}
 use Rattle.area.specs.declared.Area.{Area}
 use Rattle.area.specs.Area.{unused, sameName, cross, holdsMap, areaTests}
 use Rattle.signature.specs.Signatures.{signatures, found}
 use Rattle.fmap.specs.Fmap.{minor, base, nareas, mapEnd, areasAt, areasOf, most, countFits, signatureTests, headerTests, turnTests, wholeTests, testsAt, tests, mapOf, refused, answer, mapAt, fmapBy, fmap}
+use Rattle.fmap.specs.Header.{refusedHeader, withAreas, HeaderOf}
+use Rattle.fmap.specs.declared.Header.{Header}
 use Rattle.fmap.specs.declared.Map.{Map}
 use Rattle.signature.specs.declared.Found.the-variants.{Nothing, At, Several}
 
--- The map, field by field.
-pub map-fields : (s : List ℕ) (at : ℕ) {c m b : ℕ} {l : List Area} → c ≡ nareas s at → m ≡ minor s at → b ≡ base s at → l ≡ padded most unused (areasAt s c (at + 56))
-    → record { number = 0; place = 0; minor = m; base = b; count = c; areas = l } ≡ mapOf s at
-unfolding mapOf
-map-fields s at e f g h = rw (h, e, f, g)
+-- What the code takes for a header: of a map that is read, of a refusal, and of a map that is equal to another. Then the map of a header.
 
-pub refused-fields : (n : ℕ) {u : Area} → u ≡ unused → record { number = n; place = 0; minor = 0; base = 0; count = 0; areas = replicate most u } ≡ refused n
-unfolding refused
-refused-fields n e = rw (padded-none most unused e)
+pub map-header : (s : List ℕ) (at : ℕ) {c m b : ℕ} → c ≡ nareas s at → m ≡ minor s at → b ≡ base s at → mapEnd s at ≤ length s → nareas s at ≤ most
+    → HeaderOf s (mapOf s at) (record { number = 0; minor = m; base = b; count = c; from = at + 56 })
+unfolding mapOf
+map-header s at e f g w h = record { within = rw e w; no-more = rw e h; answer = rw (e, f, g) }
+
+pub refused-header : (s : List ℕ) {n : ℕ} {h : Header} → h ≡ refusedHeader n → HeaderOf s (refused n) h
+unfolding refused areasAt
+refused-header s e = rw e (record { within = omega arith; no-more = omega arith; answer = refl })
+
+pub same-header : {s : List ℕ} {m n : Map} {h : Header} → HeaderOf s m h → m ≡ n → HeaderOf s n h
+same-header f e = record { within = f .within; no-more = f .no-more; answer = f .answer ∙ e }
+
+pub area-fields : (s : List ℕ) (h : Header) {l : List Area} → l ≡ padded most unused (areasAt s (h .count) (h .from))
+    → record { number = h .number; place = 0; minor = h .minor; base = h .base; count = h .count; areas = l } ≡ withAreas s h
+area-fields s h e = rw e
 
 -- A header that is not refused: the map fits the bytes, and has 1 to 256 areas.
 
@@ -95,13 +104,13 @@ module _ (s : List ℕ) (at l : ℕ) where
 
   -- What is answered, by the number n of the first test that fails.
 
-  pub at-refused : {n : ℕ} {m : Map} → n ≡ firstFailed (testsAt s at l) → (n ≡ 0 → ⊥) → m ≡ refused n → m ≡ mapAt s at l
+  pub at-refused : {n : ℕ} → n ≡ firstFailed (testsAt s at l) → (n ≡ 0 → ⊥) → refused n ≡ mapAt s at l
   unfolding mapAt answer
-  at-refused {n} e z f = f ∙ rw (← e, ne-eqb n 0 z)
+  at-refused {n} e z = rw (← e, ne-eqb n 0 z)
 
-  pub at-read : {n : ℕ} {m : Map} → n ≡ firstFailed (testsAt s at l) → n ≡ 0 → m ≡ mapOf s at → m ≡ mapAt s at l
+  pub at-read : {n : ℕ} → n ≡ firstFailed (testsAt s at l) → n ≡ 0 → mapOf s at ≡ mapAt s at l
   unfolding mapAt answer
-  at-read {n} e z f = f ∙ rw (← e, eq-eqb n 0 z)
+  at-read {n} e z = rw (← e, eq-eqb n 0 z)
 
 -- The refusal of all areas together, of which n were counted, by the answers x, y and w of the three tests.
 
@@ -126,32 +135,32 @@ module _ (s : List ℕ) (at : ℕ) {n : ℕ} (c : n ≡ nareas s at) {x : Bool} 
 
 -- What is answered for an image: its length, its signatures, and the map at the only one.
 
-pub unfit-length : (i : List ℕ) {m : Map} → lengthFits i ≡ false → m ≡ refused 1 → m ≡ fmap i
+pub unfit-length : (i : List ℕ) → lengthFits i ≡ false → refused 1 ≡ fmap i
 unfolding fmap fmapBy tests answer
-unfit-length i h e = e ∙ rw h
+unfit-length i h = rw h
 
-module _ (i : List ℕ) {m : Map} (h : lengthFits i ≡ true) where
-  pub no-signature : found (signatures i) ≡ Nothing → m ≡ refused 27 → m ≡ fmap i
+module _ (i : List ℕ) (h : lengthFits i ≡ true) where
+  pub no-signature : found (signatures i) ≡ Nothing → refused 27 ≡ fmap i
   unfolding fmap fmapBy tests signatureTests answer
-  no-signature e r = r ∙ go (signatures i) e
+  no-signature e = go (signatures i) e
     where
       go : (ps : List ℕ) → found ps ≡ Nothing → refused 27 ≡ fmapBy i ps
       go [] f = rw h
       go (p ∷ []) f = let z : _≡_ {A = ℕ} 0 1 = cc in absurd (omega arith)
       go (p ∷ q ∷ ps) f = let z : _≡_ {A = ℕ} 0 1 = cc in absurd (omega arith)
 
-  pub many-signatures : found (signatures i) ≡ Several → m ≡ refused 28 → m ≡ fmap i
+  pub many-signatures : found (signatures i) ≡ Several → refused 28 ≡ fmap i
   unfolding fmap fmapBy tests signatureTests answer
-  many-signatures e r = r ∙ go (signatures i) e
+  many-signatures e = go (signatures i) e
     where
       go : (ps : List ℕ) → found ps ≡ Several → refused 28 ≡ fmapBy i ps
       go [] f = let z : _≡_ {A = ℕ} 0 1 = cc in absurd (omega arith)
       go (p ∷ []) f = let z : _≡_ {A = ℕ} 0 1 = cc in absurd (omega arith)
       go (p ∷ q ∷ ps) f = rw (h, le-leb 1 (length (p ∷ q ∷ ps)) (omega arith), lt-leb (length (p ∷ q ∷ ps)) 1 (omega arith))
 
-  pub one-signature : {p : ℕ} → found (signatures i) ≡ At p → m ≡ mapAt i p (length i) → m ≡ fmap i
+  pub one-signature : {p : ℕ} → found (signatures i) ≡ At p → mapAt i p (length i) ≡ fmap i
   unfolding fmap fmapBy tests signatureTests mapAt
-  one-signature {p} e r = r ∙ go (signatures i) e
+  one-signature {p} e = go (signatures i) e
     where
       go : (ps : List ℕ) → found ps ≡ At p → mapAt i p (length i) ≡ fmapBy i ps
       go [] f = let z : _≡_ {A = ℕ} 0 1 = cc in absurd (omega arith)

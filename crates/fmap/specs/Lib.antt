@@ -1,2 +1,3 @@
 pub mod Fmap
+pub mod Header
 pub mod Table

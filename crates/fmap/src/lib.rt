@@ -1,4 +1,5 @@
-// The flash map reader (document 01, "Flash map"): the map at a place, judged against a length; and the reader, which joins it with the signatures of the crate `signature`.
+// The flash map reader (document 01, "Flash map"): the map at a place, judged against a length; and the reader, which joins it with the
+// signatures of the crate `signature`.
 use area::Area;
 use signature::Found;
 
@@ -8,11 +9,12 @@ ghost use mathlib.Core.Path.{_≡_};
 ghost use Prim.Native.Nat.{_+_, _*_, _≤_};
 ghost use lib.ListN.{length};
 ghost use lib.Dec.{leb};
-ghost use Rattle.number.specs.Lists.{any, noTwo, padded};
+ghost use Rattle.number.specs.Lists.{any, noTwo};
 ghost use Rattle.terms.specs.Refusals.{firstFailed};
 ghost use Rattle.area.specs.Names.{nameAt};
-ghost use Rattle.area.specs.Area.{unused, bears, sameName, cross, holdsMap};
-ghost use Rattle.fmap.specs.Fmap.{areasAt, areasOf, most, countFits, mapEnd, nareas, headerTests, turnTests, wholeTests, testsAt, mapOf, refused as refusedOf, mapAt, fmap};
+ghost use Rattle.area.specs.Area.{bears, sameName, cross, holdsMap};
+ghost use Rattle.fmap.specs.Fmap.{areasAt, areasOf, most, countFits, mapEnd, nareas, headerTests, turnTests, wholeTests, testsAt, mapAt, fmap};
+ghost use Rattle.fmap.specs.Header.{refusedHeader, withAreas, HeaderOf};
 
 // How many areas a map may have.
 const MOST: usize = 256;
@@ -26,6 +28,15 @@ pub struct Map {
     pub base: u64,
     pub count: usize,
     pub areas: [Area; MOST],
+}
+
+// A map without its areas, and the place of the first of them; or a refusal's number, and zeros.
+struct Header {
+    number: u32,
+    minor: u8,
+    base: u64,
+    count: usize,
+    from: usize,
 }
 
 // An area's name, as a part of the image; empty where its record's place holds no fit name.
@@ -223,68 +234,39 @@ fn refusal_at(s: &[u8], at: usize, size: usize) -> u32
     whole_refusal(s, at, count)
 }
 
-// The `count` areas from `from` on, and unused ones after them.
-fn areas(s: &[u8], from: usize, count: usize) -> [Area; MOST]
-    requires { ⌜ (from + 42 * count ≤ length (now s)) × (count ≤ 256) ⌝ }
-    ensures { λ r. ⌜ r ≡ padded most unused (areasAt (now (s .entry)) count from) ⌝ }
+// The header of a refusal: its number, and zeros.
+fn refused(number: u32) -> Header
+    ensures { λ h. ⌜ h ≡ refusedHeader number ⌝ }
 {
-    let mut all = [area::unused(); MOST];
-    let mut p = from;
-    let mut i = 0;
-    while i < count {
-        all[i] = area::at(s, p);
-        p += 42;
-        i += 1;
-    }
-    all
-}
-
-// The map at `at`, which is not refused.
-fn map_read(s: &[u8], at: usize) -> Map
-    requires { ⌜ (nareas (now s) at ≤ 256) × (mapEnd (now s) at ≤ length (now s)) ⌝ }
-    ensures { λ r. ⌜ r ≡ mapOf (now (s .entry)) at ⌝ }
-{
-    let count = number::le16(s, at + 54) as usize;
-    Map {
-        number: 0,
-        place: 0,
-        minor: number::byte(s, at + 9),
-        base: number::le64(s, at + 10),
-        count,
-        areas: areas(s, at + 56, count),
-    }
-}
-
-// A refusal: its number, and zeros.
-fn refused(number: u32) -> Map
-    ensures { λ r. ⌜ r ≡ refusedOf number ⌝ }
-{
-    Map {
+    Header {
         number,
-        place: 0,
         minor: 0,
         base: 0,
         count: 0,
-        areas: [area::unused(); MOST],
+        from: 0,
     }
 }
 
-// The map at `at`, judged against a size, or the refusal. That a signature stands there is not judged again.
-pub fn map_at(s: &[u8], at: usize, size: usize) -> Map
-    ensures { λ r. ⌜ r ≡ mapAt (now (s .entry)) at size ⌝ }
-    ensures kept { λ _. ⌜ now (s .exit) ≡ now (s .entry) ⌝ }
+// The header of the map at `at`, judged against a size, or of the refusal.
+fn header_at(s: &[u8], at: usize, size: usize) -> Header
+    ensures { λ h. ⌜ HeaderOf (now (s .entry)) (mapAt (now (s .entry)) at size) h ⌝ }
 {
     let n = refusal_at(s, at, size);
     if n != 0 {
         return refused(n);
     }
-    map_read(s, at)
+    Header {
+        number: 0,
+        minor: number::byte(s, at + 9),
+        base: number::le64(s, at + 10),
+        count: number::le16(s, at + 54) as usize,
+        from: at + 56,
+    }
 }
 
-// The flash map of an image, or the refusal.
-pub fn read(image: &[u8]) -> Map
-    ensures { λ r. ⌜ r ≡ fmap (now (image .entry)) ⌝ }
-    ensures kept { λ _. ⌜ now (image .exit) ≡ now (image .entry) ⌝ }
+// The header of the flash map of an image, or of the refusal.
+fn header_of(image: &[u8]) -> Header
+    ensures { λ h. ⌜ HeaderOf (now (image .entry)) (fmap (now (image .entry))) h ⌝ }
 {
     if !terms::length_fits(image) {
         return refused(1);
@@ -293,6 +275,47 @@ pub fn read(image: &[u8]) -> Map
     match f {
         Found::Nothing => refused(27),
         Found::Several => refused(28),
-        Found::At(at) => map_at(image, at, image.len()),
+        Found::At(at) => header_at(image, at, image.len()),
     }
+}
+
+// The map of a header: its areas are read, and unused ones come after them.
+// Maps and refusals are made here alone, so that a call needs stack for one array besides its result.
+fn with_areas(s: &[u8], h: Header) -> Map
+    requires { ⌜ (h .from + 42 * h .count ≤ length (now s)) × (h .count ≤ most) ⌝ }
+    ensures { λ m. ⌜ m ≡ withAreas (now (s .entry)) h ⌝ }
+{
+    let count = h.count;
+    let mut all = [area::unused(); MOST];
+    let mut p = h.from;
+    let mut i = 0;
+    while i < count {
+        all[i] = area::at(s, p);
+        p += 42;
+        i += 1;
+    }
+    Map {
+        number: h.number,
+        place: 0,
+        minor: h.minor,
+        base: h.base,
+        count,
+        areas: all,
+    }
+}
+
+// The map at `at`, judged against a size, or the refusal. That a signature stands there is not judged again.
+pub fn map_at(s: &[u8], at: usize, size: usize) -> Map
+    ensures { λ r. ⌜ r ≡ mapAt (now (s .entry)) at size ⌝ }
+    ensures kept { λ _. ⌜ now (s .exit) ≡ now (s .entry) ⌝ }
+{
+    with_areas(s, header_at(s, at, size))
+}
+
+// The flash map of an image, or the refusal.
+pub fn read(image: &[u8]) -> Map
+    ensures { λ r. ⌜ r ≡ fmap (now (image .entry)) ⌝ }
+    ensures kept { λ _. ⌜ now (image .exit) ≡ now (image .entry) ⌝ }
+{
+    with_areas(image, header_of(image))
 }

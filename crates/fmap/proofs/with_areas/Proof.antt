@@ -1,3 +1,4 @@
+-- The loop's invariant: the first i areas are stored, and the other records are not used.
 use Prim.Native.Nat.{ℕ, _+_, _*_, _-_, _≤_}
 use mathlib.Core.Path.{_≡_, ap, _∙_}
 use native.Mathlib.Omega.{arith}
@@ -5,15 +6,16 @@ use Rattle.number.specs.Lists.{padded}
 use Rattle.area.specs.Area.{unused}
 use Rattle.fmap.specs.Fmap.{areasAt, most}
 use Rattle.fmap.proofs.Counting.{padded-start, padded-next}
+use Rattle.fmap.proofs.Reading.{area-fields}
 use borrow.Author.Needs.{needs}
-use Rattle.fmap.proofs.areas.Statement.{statement}
-use Rattle.fmap.proofs.areas.Tie as tie
+use Rattle.fmap.proofs.with_areas.Statement.{statement}
+use Rattle.fmap.proofs.with_areas.Tie as tie
 
 abbrev Inv-loop : tie.InvT-loop
-Inv-loop s from count all₀ p₀ i₀ all p i = (i ≤ count) × (p ≡ from + 42 * i) × (all ≡ padded most unused (areasAt s i from))
+Inv-loop s h count all₀ p₀ i₀ all p i = (i ≤ count) × (p ≡ h .from + 42 * i) × (all ≡ padded most unused (areasAt s i (h .from)))
 
 abbrev μ-loop : tie.MeasureT-loop
-μ-loop s from count all₀ p₀ i₀ all p i = count - i
+μ-loop s h count all₀ p₀ i₀ all p i = count - i
 
 unused-requires : tie.Need-unused-requires Inv-loop μ-loop
 unused-requires c κs = search needs
@@ -43,17 +45,18 @@ loop-again : tie.Need-loop-again Inv-loop μ-loop
 loop-again c =
     let l = c .before .before in
     let a = l .before .before .before .args in
-    (omega arith, omega arith, padded-next (a .s .now) (a .from) (l .loop .i) (l .loop .p) (omega arith) (l .loop .inv .1) (l .loop .inv .2) (c .at .ensures .0) (omega arith))
+    let (_, q, e) = l .loop .inv in
+    (omega arith, omega arith, padded-next (a .s .now) (a .h .from) (l .loop .i) (l .loop .p) (omega arith) q e (c .at .ensures .0) (omega arith))
 
 returns : tie.Need-returns Inv-loop μ-loop
 returns c =
     let l = c .before in
     let a = l .before .before .before .args in
-    let e : l .loop .i ≡ a .count = omega arith in
-    l .loop .inv .2 ∙ ap (λ (n : ℕ). padded most unused (areasAt (a .s .now) n (a .from))) e
+    let e : l .loop .i ≡ a .h .count = omega arith in
+    area-fields (a .s .now) (a .h) (l .loop .inv .2 ∙ ap (λ (n : ℕ). padded most unused (areasAt (a .s .now) n (a .h .from))) e)
 
-pub areas-spec : {M : Type 1} → statement M
-areas-spec =
+pub with-areas-spec : {M : Type 1} → statement M
+with-areas-spec =
     tie.close
     (tie.spec
     Inv-loop
