@@ -1,12 +1,12 @@
 // Compares the answers of both sides, at sizes that the probe cannot hold and on damaged images.
-use crate::boundaries;
 use crate::images::{self, blank, put, Random, BOOTBLOCK};
+use crate::plain::{self, LIMIT};
 use crate::timing::{CALLS, SIDES};
-use crate::SIZES;
+use crate::{boundaries, edit_answers, edit_times, ours, SIZES};
 use std::sync::atomic::{AtomicUsize, Ordering};
 
 // Fewest comparisons of a run without times.
-const FLOOR: usize = 201_000;
+const FLOOR: usize = 481_000;
 
 static COMPARED: AtomicUsize = AtomicUsize::new(0);
 
@@ -14,22 +14,32 @@ pub fn compared() -> usize {
     COMPARED.load(Ordering::Relaxed)
 }
 
-// How many of the five calls answer differently on an image.
+// Counts comparisons that were made elsewhere, and answers how many of them differ.
+pub fn counted((differing, number): (usize, usize)) -> usize {
+    COMPARED.fetch_add(number, Ordering::Relaxed);
+    differing
+}
+
+// How many of the calls answer differently on an image: the five that are timed, and the strict check's first, third and last place, and none after it.
 pub fn compare(label: &str, image: &[u8], name: &[u8]) -> usize {
     let mut differing = 0;
-    for (call, [ours, plain]) in CALLS.iter().zip(SIDES) {
-        let (a, b) = (ours(image, name), plain(image, name));
-        COMPARED.fetch_add(1, Ordering::Relaxed);
+    let mut judge = |call: &str, a: u64, b: u64| {
         if a != b {
             println!("DIFFER: {label}, {} bytes, {call}: {a:#x} and {b:#x}", image.len());
-            differing += 1;
         }
+        differing += counted((usize::from(a != b), 1));
+    };
+    for (call, [ours, plain]) in CALLS.iter().zip(SIDES) {
+        judge(call, ours(image, name), plain(image, name));
+    }
+    for k in [0, 2, LIMIT - 1, LIMIT] {
+        judge("a place of the directory", ours::strict_place(image, k), plain::strict_place(image, k));
     }
     differing
 }
 
 // Up to `number` components at random places of a region, spans overlapping or passing the end now and then, and some bytes damaged.
-fn spoil(image: &mut [u8], random: &mut Random, number: usize, align: usize, start: usize, end: usize) {
+pub fn spoil(image: &mut [u8], random: &mut Random, number: usize, align: usize, start: usize, end: usize) {
     let places = (end - start).div_ceil(align);
     for _ in 0..number {
         let place = start + random.below(places) * align;
@@ -103,7 +113,7 @@ fn damaged(number: usize) -> usize {
 
 // All but the images that are timed. The answers on images at the boundaries are known beforehand.
 pub fn special() -> usize {
-    boundaries::unmet() + large() + damaged(40_000)
+    boundaries::unmet() + large() + damaged(40_000) + counted(edit_answers::differing(30_000))
 }
 
 // The comparison by itself, the images that are timed included. Says whether it is good.
@@ -112,6 +122,7 @@ pub fn alone() -> bool {
     for case in SIZES.into_iter().flat_map(images::cases) {
         differing += compare(case.label, &case.image, &case.name);
     }
+    differing += counted(edit_times::differing(&edit_times::cases()));
     let held = boundaries::held();
     println!("answers: {} compared, and {held} of them with numbers written out; {differing} differ", compared());
     let few = compared() < FLOOR || held < boundaries::FLOOR;

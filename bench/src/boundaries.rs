@@ -1,11 +1,14 @@
-// Images at the limits of document 01, with the five answers to each written out. They do not come from plain.rs, which might be wrong alike.
-use crate::answers::compare;
-use crate::images::{blank, framed, put};
+// Images at the limits of document 01, with the five answers to each written out, and edits with their answer and the image afterwards.
+// They do not come from plain.rs, which might be wrong alike.
+use crate::answers::{compare, counted};
+use crate::edits::{carried_out, Request, ADD, EDITS, REMOVE, REPLACE};
+use crate::images::{blank, framed, put, put_whole};
 use crate::timing::{CALLS, SIDES};
+use std::ops::Range;
 use std::sync::atomic::{AtomicUsize, Ordering};
 
 // Fewest answers that are held to their numbers.
-pub const FLOOR: usize = 365;
+pub const FLOOR: usize = 405;
 
 static HELD: AtomicUsize = AtomicUsize::new(0);
 
@@ -190,7 +193,116 @@ fn counts() -> usize {
     unmet
 }
 
+// The image with a component written over a slot, and 0xFF after it.
+fn written(image: &[u8], slot: Range<usize>, name: &[u8], kind: u32, content: &[u8]) -> Vec<u8> {
+    let mut after = cleared(image, slot.clone());
+    put_whole(&mut after, slot.start, name, kind, content);
+    after
+}
+
+fn cleared(image: &[u8], slot: Range<usize>) -> Vec<u8> {
+    let mut after = image.to_vec();
+    after[slot].fill(0xFF);
+    after
+}
+
+const KIND: u32 = 0x50;
+
+// Carries out an edit on a copy of the image: Some(after) where it is done, and None where it is refused and leaves the image as it is.
+fn hold_edit(image: &[u8], edit: usize, name: &[u8], content: &[u8], expected: u64, after: Option<Vec<u8>>) -> usize {
+    let request = Request { name: name.to_vec(), kind: KIND, content: content.to_vec() };
+    let mut edited = image.to_vec();
+    let (answer, agree) = carried_out(edit, &mut edited, &mut Vec::new(), &request);
+    let differing = counted((usize::from(!agree), 1));
+    if answer == expected && edited == after.as_deref().unwrap_or(image) {
+        HELD.fetch_add(1, Ordering::Relaxed);
+        return differing;
+    }
+    println!("UNMET: {} {name:?}, {} bytes: {answer:#x}, and {expected:#x} expected, or other bytes", EDITS[edit], image.len());
+    differing + 1
+}
+
+// Bench image A of document 01, and what it says of edits.
+fn edits_of_a() -> usize {
+    let mut a = blank(4096, 1024, 64, 0, 0xFF);
+    put_whole(&mut a, 0, b"cal/12", u32::MAX, &[0; 100]);
+    put_whole(&mut a, 192, b"cal/13", u32::MAX, &[0; 24]);
+    let of = |n: usize| vec![7; n];
+    let magic_at = |n: usize| [&vec![7; n], &b"LARCHIVE"[..]].concat();
+    let new = |slot: Range<usize>, name: &[u8], content: &[u8]| Some(written(&a, slot, name, KIND, content));
+    let whole = Some(written(&a, 0..192, b"cal/12", u32::MAX, &of(152)));
+    let short = Some(written(&a, 192..3072, b"cal/13", u32::MAX, b""));
+    let long = [b'n'; 256];
+    let hold = |edit, name: &[u8], content: &[u8], expected, after| hold_edit(&a, edit, name, content, expected, after);
+    let mut unmet = 0;
+    unmet += hold(REPLACE, b"cal/12", &of(152), 0, whole);
+    unmet += hold(REPLACE, b"cal/12", &of(153), refused(17, 0), None);
+    unmet += hold(REPLACE, b"cal/13", b"", 192, short);
+    unmet += hold(REPLACE, b"cal/1", b"", refused(10, 0), None);
+    unmet += hold(REPLACE, b"cal/12", &magic_at(24), refused(16, 0), None);
+    unmet += hold(REMOVE, b"cal/12", b"", 0, Some(cleared(&a, 0..192)));
+    unmet += hold(REMOVE, b"cal/13", b"", 192, Some(cleared(&a, 192..3072)));
+    unmet += hold(REMOVE, b"cal/1", b"", refused(10, 0), None);
+    unmet += hold(ADD, b"log", &of(2776), 256, new(256..3072, b"log", &of(2776)));
+    unmet += hold(ADD, b"log", &of(2777), refused(17, 0), None);
+    unmet += hold(ADD, b"log", &magic_at(24), refused(16, 0), None);
+    unmet += hold(ADD, b"log", &magic_at(25), 256, new(256..3072, b"log", &magic_at(25)));
+    unmet += hold(ADD, b"xxxxxxxxLARCHIVE", b"", 256, new(256..3072, b"xxxxxxxxLARCHIVE", b""));
+    unmet += hold(ADD, &long[1..], &of(9), 256, new(256..3072, &long[1..], &of(9)));
+    for name in [&b""[..], &long, b"a b", b"a\x7F", b"a\0"] {
+        unmet += hold(ADD, name, b"", refused(14, 0), None);
+    }
+    unmet += hold(ADD, b"cal/13", b"", refused(15, 0), None);
+    // At align 16 byte 32 is a place.
+    let fine = blank(4096, 1024, 16, 0, 0xFF);
+    unmet += hold_edit(&fine, ADD, b"xxxxxxxxLARCHIVE", b"", refused(16, 0), None);
+    // A name that two components have, and the magic where no component is.
+    let (mut twice, mut stray) = (a.clone(), a.clone());
+    twice[29] = b'3';
+    stray[2048..][..8].copy_from_slice(b"LARCHIVE");
+    for edit in [ADD, REPLACE, REMOVE] {
+        unmet += hold_edit(&twice, edit, b"cal/13", b"", refused(11, 0), None);
+        unmet += hold_edit(&stray, edit, b"cal/13", b"", refused(12, 2048), None);
+    }
+    unmet
+}
+
+// Places are told from the image's start, and not from the region's, which begins at byte 128.
+fn edits_at_offset() -> usize {
+    let mut image = blank(4096, 1024, 64, 128, 0xFF);
+    put_whole(&mut image, 128, b"cal/12", 3, &[0; 100]);
+    let mut stray = image.clone();
+    stray[1024..][..8].copy_from_slice(b"LARCHIVE");
+    let added = Some(written(&image, 320..3072, b"log", KIND, b"new"));
+    let replaced = Some(written(&image, 128..3072, b"cal/12", 3, b"new"));
+    hold_edit(&image, ADD, b"log", b"new", 320, added)
+        + hold_edit(&image, REPLACE, b"cal/12", b"new", 128, replaced)
+        + hold_edit(&image, REMOVE, b"cal/12", b"", 128, Some(cleared(&image, 128..3072)))
+        + hold_edit(&stray, ADD, b"log", b"new", refused(12, 1024), None)
+}
+
+// An add is done beside 255 components, and refused beside 256; the other edits are done there. Beside 257 all are refused.
+fn edits_at_count() -> usize {
+    let mut unmet = 0;
+    for number in [255, 256, 257] {
+        let mut image = blank(MOST, 1024, 4096, 0, 0xFF);
+        for k in 0..number {
+            put_whole(&mut image, k * 4096, format!("c{k}").as_bytes(), 3, &[0; 16]);
+        }
+        let (slot, free) = (8192..12_288, number * 4096..MOST - 1024);
+        let replaced = Some(written(&image, slot.clone(), b"c2", 3, b"new"));
+        let (others, replaced, removed) =
+            if number == 257 { (refused(13, 0), None, None) } else { (8192, replaced, Some(cleared(&image, slot))) };
+        let added = (number == 255).then(|| written(&image, free, b"new", KIND, b"new"));
+        let place = if number == 255 { 1_044_480 } else { refused(13, 0) };
+        unmet += hold_edit(&image, ADD, b"new", b"new", place, added);
+        unmet += hold_edit(&image, REPLACE, b"c2", b"new", others, replaced);
+        unmet += hold_edit(&image, REMOVE, b"c2", b"", others, removed);
+    }
+    unmet
+}
+
 // How many answers at the boundaries are not what they must be, or differ from plain Rust.
 pub fn unmet() -> usize {
-    lengths() + pointers() + wide() + aligns() + counts()
+    lengths() + pointers() + wide() + aligns() + counts() + edits_of_a() + edits_at_offset() + edits_at_count()
 }

@@ -18,6 +18,10 @@ impl Random {
     pub fn below(&mut self, n: usize) -> usize {
         (self.next() >> 16) as usize % n.max(1)
     }
+
+    pub fn bytes(&mut self, n: usize) -> Vec<u8> {
+        (0..n).map(|_| self.next() as u8).collect()
+    }
 }
 
 pub const BOOTBLOCK: usize = 1024;
@@ -39,14 +43,22 @@ pub fn blank(length: usize, bootblock: usize, align: usize, start: usize, fill: 
     framed(length, 36, bootblock, align, start, fill)
 }
 
-// A component at a place: its header and its name field. The content stays as it is.
-pub fn put(image: &mut [u8], place: usize, name: &[u8], len: usize) {
+// A component at a place: its header, of type 0, and its name field. The content stays as it is. Answers where it begins.
+pub fn put(image: &mut [u8], place: usize, name: &[u8], len: usize) -> usize {
     let offset = 24 + (name.len() / 16 + 1) * 16;
     image[place..place + offset].fill(0);
     image[place..][..8].copy_from_slice(b"LARCHIVE");
     image[place + 8..][..4].copy_from_slice(&(len as u32).to_be_bytes());
     image[place + 20..][..4].copy_from_slice(&(offset as u32).to_be_bytes());
     image[place + 24..][..name.len()].copy_from_slice(name);
+    place + offset
+}
+
+// The same with its content and its type.
+pub fn put_whole(image: &mut [u8], place: usize, name: &[u8], kind: u32, content: &[u8]) {
+    let at = put(image, place, name, content.len());
+    image[place + 12..][..4].copy_from_slice(&kind.to_be_bytes());
+    image[at..][..content.len()].copy_from_slice(content);
 }
 
 // An image to be timed: what it is, its bytes, and the name that the lookups ask for.
@@ -56,7 +68,7 @@ pub struct Case {
     pub name: Vec<u8>,
 }
 
-fn name_of(k: usize) -> Vec<u8> {
+pub fn name_of(k: usize) -> Vec<u8> {
     format!("table/{k:04}").into_bytes()
 }
 

@@ -1,10 +1,15 @@
 // Times the proved calls against the same algorithms in plain Rust, in one run, and compares the answers of both.
-// It fails if an answer differs; the goals for the times are reported as met or missed. With `answers` it only compares.
+// It fails if an answer differs; the goals for the times are reported as met or missed. With `answers` it only compares, with `stack` it
+// measures the stack of each call, and fails if one takes too much.
 mod answers;
 mod boundaries;
+mod edit_answers;
+mod edit_times;
+mod edits;
 mod images;
 mod ours;
 mod plain;
+mod stack;
 mod timing;
 
 use std::process::ExitCode;
@@ -31,12 +36,17 @@ struct Times {
 const UNTIMED: Times = Times { same: [[f64::INFINITY; 2]; SIZES.len()], turn: [[f64::INFINITY; 2]; ENDS.len()] };
 
 fn main() -> ExitCode {
-    let word = std::env::args().nth(1).unwrap_or_default();
-    if word == "answers" {
-        return ExitCode::from(u8::from(!answers::alone()));
-    }
-    let quick = word == "quick";
-    let runs = if quick { 10 } else { 200 };
+    let words: Vec<String> = std::env::args().skip(1).collect();
+    let runs = match words.iter().map(String::as_str).collect::<Vec<_>>()[..] {
+        [] => 200,
+        ["quick"] => 10,
+        ["answers"] => return ExitCode::from(u8::from(!answers::alone())),
+        ["stack"] => return ExitCode::from(u8::from(!stack::good())),
+        _ => {
+            println!("usage: bench/run [quick | answers | stack]");
+            return ExitCode::from(2);
+        }
+    };
     let mut differing = answers::special();
     let labels: Vec<&str> = images::cases(1).iter().map(|case| case.label).collect();
     let mut times = vec![[UNTIMED; CALLS.len()]; labels.len()];
@@ -64,12 +74,17 @@ fn main() -> ExitCode {
             }
         }
     }
+    drop(memory);
+    let edits = edit_times::cases();
+    differing += answers::counted(edit_times::differing(&edits));
     let missed = report(&labels, &times);
+    let (slow, lines) = edit_times::report(&edits, runs);
     println!("answers: {} compared, {differing} differ", answers::compared());
     println!(
         "goals at 16 MiB: {QUOTIENT} times plain Rust, {GROWTH} times the time at 1 MiB: missed by {missed} of {}",
         labels.len() * CALLS.len()
     );
+    println!("edits' goal at 16 MiB: {} times plain Rust: missed by {slow} of {lines}", edit_times::QUOTIENT);
     ExitCode::from(u8::from(differing > 0))
 }
 

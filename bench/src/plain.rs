@@ -1,7 +1,8 @@
-// The same algorithms in plain Rust: the master header, the two walks, the lookups and the strict check.
+// The same algorithms in plain Rust: the master header, the two walks, the lookups, the strict check and the edits.
 // Written for speed and for reading, with the standard library alone; nothing here is proved.
 const MAGIC: &[u8; 8] = b"LARCHIVE";
-const LIMIT: usize = 256;
+// How many components an image may have.
+pub const LIMIT: usize = 256;
 
 // A refusal's number and the place that it tells.
 #[derive(Clone, Copy)]
@@ -64,7 +65,7 @@ fn region(image: &[u8]) -> Result<Region<'_>, Refusal> {
         return refused(7);
     }
     let end = romsize - bootblock;
-    if start % align != 0 || start > end {
+    if !start.is_multiple_of(align) || start > end {
         return refused(8);
     }
     let bytes = &image[start..end];
@@ -79,11 +80,15 @@ struct Component<'a> {
     end: usize,
 }
 
-// The name in a name field: 1 to 255 bytes of 0x21 to 0x7E, then zeros.
+// 1 to 255 bytes of 0x21 to 0x7E.
+fn name_fits(name: &[u8]) -> bool {
+    (1..=255).contains(&name.len()) && name.iter().all(|b| (0x21..=0x7E).contains(b))
+}
+
+// The name in a name field, which has zeros after it.
 fn name_in(field: &[u8]) -> Option<&[u8]> {
     let (name, padding) = field.split_at(field.iter().position(|&b| b == 0)?);
-    let fits = !name.is_empty() && name.iter().all(|b| (0x21..=0x7E).contains(b)) && padding.iter().all(|&b| b == 0);
-    fits.then_some(name)
+    (name_fits(name) && padding.iter().all(|&b| b == 0)).then_some(name)
 }
 
 impl<'a> Region<'a> {
@@ -101,7 +106,7 @@ impl<'a> Region<'a> {
         }
         let offset = be32(part, 20) as usize;
         let span = offset + be32(part, 8) as usize;
-        if !(40..=280).contains(&offset) || (offset - 24) % 16 != 0 || span > part.len() {
+        if !(40..=280).contains(&offset) || !(offset - 24).is_multiple_of(16) || span > part.len() {
             return None;
         }
         let name = name_in(&part[24..offset])?;
@@ -182,24 +187,21 @@ pub fn guarded_place(image: &[u8], name: &[u8]) -> u64 {
     told(find(true, image, name))
 }
 
-// The components' places, told from the image's start, and zeros after them.
-struct Directory {
-    count: usize,
-    places: [usize; LIMIT],
-}
-
 // A number made of a name's bytes. Names with different digests differ.
 fn digest(name: &[u8]) -> u32 {
     name.iter().fold(0, |h: u32, &b| h.wrapping_mul(31).wrapping_add(u32::from(b)))
 }
 
-// One pass: a place with the magic that is ill formed, or that lies in a span, is astray. Then the names are compared pairwise, by their digests first.
-fn strict_check(image: &[u8]) -> Result<Directory, Refusal> {
-    let region = region(image)?;
+// The strict check of a region, in one pass: a place with the magic that is ill formed, or that lies in a span, is astray. Then the names are
+// compared pairwise, by their digests first. The names are stored, and each component is handed to `keep` with its index. Answers their number.
+fn survey<'a>(
+    region: &Region<'a>,
+    names: &mut [&'a [u8]; LIMIT],
+    mut keep: impl FnMut(usize, Component),
+) -> Result<usize, Refusal> {
     let length = region.bytes.len();
     let astray = |place: usize| Err(Refusal { number: 12, place: region.start + place });
-    let mut directory = Directory { count: 0, places: [0; LIMIT] };
-    let mut names: [&[u8]; LIMIT] = [&[]; LIMIT];
+    let mut count = 0;
     let mut place = region.next_magic(0, length);
     while place < length {
         let Some(component) = region.component_at(place) else {
@@ -209,29 +211,196 @@ fn strict_check(image: &[u8]) -> Result<Directory, Refusal> {
         if buried < component.end {
             return astray(buried);
         }
-        let n = directory.count;
-        if n < LIMIT {
-            directory.places[n] = region.start + place;
-            names[n] = component.name;
+        if count < LIMIT {
+            names[count] = component.name;
+            keep(count, component);
         }
-        directory.count += 1;
+        count += 1;
         place = region.next_magic(region.onward(component.end), length);
     }
-    if directory.count > LIMIT {
+    if count > LIMIT {
         return refused(13);
     }
-    let names = &names[..directory.count];
+    let names = &names[..count];
     let mut digests = [0; LIMIT];
     for (digest_of, name) in digests.iter_mut().zip(names) {
         *digest_of = digest(name);
     }
-    let alike = |i: usize, k: usize| digests[i] == digests[k] && names[i] == names[k];
-    if (0..names.len()).any(|i| (i + 1..names.len()).any(|k| alike(i, k))) {
+    let digests = &digests[..count];
+    let repeated = |i: usize| {
+        let (mine, later) = (digests[i], &digests[i + 1..]);
+        later.contains(&mine) && later.iter().zip(&names[i + 1..]).any(|(&digest, &name)| digest == mine && name == names[i])
+    };
+    if (0..count).any(repeated) {
         return refused(11);
     }
-    Ok(directory)
+    Ok(count)
+}
+
+// The components' places, told from the image's start, and zeros after them.
+struct Directory {
+    count: usize,
+    places: [usize; LIMIT],
+}
+
+fn strict_check(image: &[u8]) -> Result<Directory, Refusal> {
+    let region = region(image)?;
+    let mut places = [0; LIMIT];
+    let count = survey(&region, &mut [&[]; LIMIT], |n, component| places[n] = region.start + component.place)?;
+    Ok(Directory { count, places })
 }
 
 pub fn strict_count(image: &[u8]) -> u64 {
     told(strict_check(image).map(|directory| directory.count))
+}
+
+// The k-th place of the directory, 0 past its end.
+pub fn strict_place(image: &[u8], k: usize) -> u64 {
+    told(strict_check(image).map(|directory| directory.places.get(k).copied().unwrap_or(0)))
+}
+
+// Edits in one pass: the strict check keeps the components' names and spans, and the name, the slot and the free runs follow from them.
+struct Components<'a> {
+    region: Region<'a>,
+    count: usize,
+    names: [&'a [u8]; LIMIT],
+    spans: [Span; LIMIT],
+}
+
+// From a place up to an end, in the region.
+#[derive(Clone, Copy)]
+struct Span {
+    place: usize,
+    end: usize,
+}
+
+// The bytes of the image that an edit writes, and the type of the component there.
+struct Slot {
+    from: usize,
+    to: usize,
+    kind: u32,
+}
+
+fn components(image: &[u8]) -> Result<Components<'_>, Refusal> {
+    let region = region(image)?;
+    let mut names: [&[u8]; LIMIT] = [&[]; LIMIT];
+    let mut spans = [Span { place: 0, end: 0 }; LIMIT];
+    let count = survey(&region, &mut names, |n, Component { place, end, .. }| spans[n] = Span { place, end })?;
+    Ok(Components { region, count, names, spans })
+}
+
+impl Components<'_> {
+    fn named(&self, name: &[u8]) -> Option<usize> {
+        self.names[..self.count].iter().position(|&other| other == name)
+    }
+
+    fn slot(&self, from: usize, to: usize, kind: u32) -> Slot {
+        let start = self.region.start;
+        Slot { from: start + from, to: start + to, kind }
+    }
+
+    // The slot of the component with the name: up to the next component, or the region's end.
+    fn slot_named(&self, name: &[u8]) -> Result<Slot, Refusal> {
+        let Some(k) = self.named(name) else {
+            return refused(10);
+        };
+        let spans = &self.spans[..self.count];
+        let place = spans[k].place;
+        let end = spans.get(k + 1).map_or(self.region.bytes.len(), |next| next.place);
+        Ok(self.slot(place, end, be32(self.region.bytes, place + 12)))
+    }
+
+    // The lowest free run that holds so many bytes.
+    fn free_run(&self, length: usize, kind: u32) -> Result<Slot, Refusal> {
+        let mut from = 0;
+        for span in &self.spans[..self.count] {
+            if from + length <= span.place {
+                return Ok(self.slot(from, span.place, kind));
+            }
+            from = self.region.onward(span.end);
+        }
+        let end = self.region.bytes.len();
+        if from + length > end {
+            return refused(17);
+        }
+        Ok(self.slot(from, end, kind))
+    }
+
+    // 16: the component to be written holds the magic at a place after its first. At an alignment of 16 or more only its name or its content can.
+    fn holds_magic(&self, name: &[u8], content: &[u8]) -> bool {
+        self.magic_in(24, name) || self.magic_in(offset_for(name), content)
+    }
+
+    // The part, which begins at byte `at` of a span, holds the magic at a place.
+    fn magic_in(&self, at: usize, part: &[u8]) -> bool {
+        let first = at.next_multiple_of(self.region.align) - at;
+        (first..part.len().saturating_sub(7)).step_by(self.region.align).any(|p| &part[p..p + 8] == MAGIC)
+    }
+}
+
+fn offset_for(name: &[u8]) -> usize {
+    24 + (name.len() / 16 + 1) * 16
+}
+
+fn slot_to_add(image: &[u8], name: &[u8], kind: u32, content: &[u8]) -> Result<Slot, Refusal> {
+    let components = components(image)?;
+    if !name_fits(name) {
+        return refused(14);
+    }
+    if components.named(name).is_some() {
+        return refused(15);
+    }
+    if components.count == LIMIT {
+        return refused(13);
+    }
+    if components.holds_magic(name, content) {
+        return refused(16);
+    }
+    components.free_run(offset_for(name) + content.len(), kind)
+}
+
+fn slot_to_replace(image: &[u8], name: &[u8], content: &[u8]) -> Result<Slot, Refusal> {
+    let components = components(image)?;
+    let slot = components.slot_named(name)?;
+    if components.holds_magic(name, content) {
+        return refused(16);
+    }
+    if slot.from + offset_for(name) + content.len() > slot.to {
+        return refused(17);
+    }
+    Ok(slot)
+}
+
+// Writes a component over the slot, and 0xFF after it. Answers its place.
+fn write(image: &mut [u8], slot: Slot, name: &[u8], content: &[u8]) -> usize {
+    let offset = offset_for(name);
+    let (header, rest) = image[slot.from..slot.to].split_at_mut(24);
+    header[..8].copy_from_slice(MAGIC);
+    header[8..12].copy_from_slice(&(content.len() as u32).to_be_bytes());
+    header[12..16].copy_from_slice(&slot.kind.to_be_bytes());
+    header[16..20].fill(0);
+    header[20..].copy_from_slice(&(offset as u32).to_be_bytes());
+    let (field, rest) = rest.split_at_mut(offset - 24);
+    field[..name.len()].copy_from_slice(name);
+    field[name.len()..].fill(0);
+    let (held, after) = rest.split_at_mut(content.len());
+    held.copy_from_slice(content);
+    after.fill(0xFF);
+    slot.from
+}
+
+pub fn add(image: &mut [u8], name: &[u8], kind: u32, content: &[u8]) -> u64 {
+    told(slot_to_add(image, name, kind, content).map(|slot| write(image, slot, name, content)))
+}
+
+pub fn replace(image: &mut [u8], name: &[u8], content: &[u8]) -> u64 {
+    told(slot_to_replace(image, name, content).map(|slot| write(image, slot, name, content)))
+}
+
+pub fn remove(image: &mut [u8], name: &[u8]) -> u64 {
+    let slot = components(image).and_then(|components| components.slot_named(name));
+    told(slot.map(|slot| {
+        image[slot.from..slot.to].fill(0xFF);
+        slot.from
+    }))
 }

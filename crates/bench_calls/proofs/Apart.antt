@@ -1,4 +1,4 @@
--- What is answered and what is refused are told apart: a count or a place is below 2^32, and every refusal is at or above it.
+-- What is answered and what is refused are told apart, for the calls that are timed: a count or a place is below 2^32, and every refusal is at or above it.
 use Prim.Native.Nat.{ℕ, _^_, _≤_, _<_}
 use native.Mathlib.Omega.{arith}
 use mathlib.Core.Path.{_≡_, refl, ap, _∙_}
@@ -25,8 +25,15 @@ use Rattle.region.specs.declared.Found.the-variants.{At}
 use Rattle.region.specs.declared.Found.the-variants.{Refused as LookupRefused}
 use Rattle.reading.specs.Reading.{strictCheck}
 use Rattle.finding.specs.Finding.{findOf}
+use Rattle.editor.specs.declared.Edited.the-variants.{Done}
+use Rattle.editor.specs.declared.Edited.the-variants.{Refused as EditRefused}
+use Rattle.edit.specs.Edit.{Bytes}
+use Rattle.editing.specs.Editing.{added, replaced, removed}
+use Rattle.claims.proofs.Images.{bytes-length}
+use Rattle.claims.proofs.Edits.{add-done-image, replace-done-image, remove-done-image}
+use Rattle.claims.proofs.Refusing.{add-refusal, replace-refusal, remove-refusal}
 use Rattle.claims.proofs.Accepting.{strict-check-accepts, strict-check-directory}
-use Rattle.bench_calls.specs.Calls.{refusalNumber, countOf, placeOf, strictCount}
+use Rattle.bench_calls.specs.Calls.{refusalNumber, countOf, placeOf, strictCount, addPlace, replacePlace, removePlace}
 use Rattle.bench_calls.proofs.Stepping.{count-few}
 
 -- A refusal has a number that is not 0.
@@ -95,4 +102,41 @@ strict-answered i z =
     rw (strict-check-directory i g a) (omega (arith, a .acc .few))
 
 pub strict-refused : (i : List ℕ) → (strictCheck i .number ≡ 0 → ⊥) → 2 ^ 32 ≤ strictCount i
-strict-refused i h = rw (ne-eqb (strictCheck i .number) 0 h) (above _ h)
+strict-refused i h = rw (ne-eqb (strictCheck i .number) 0 h) (above (record { number = strictCheck i .number; place = strictCheck i .place }) h)
+
+-- The edits. A type has 32 bits, and the numbers of a lent image are bytes.
+
+pub add-answered : (i name : List ℕ) (kind : ℕ) (content : List ℕ) (p : ℕ) → kind < 256 ^ 4 → added i name kind content .answer ≡ Done p
+    → addPlace i name kind content < 2 ^ 32
+add-answered i name kind content p typed f =
+    let (g, a, d) = add-done-image i name kind content p typed f in
+    let (q, at, place, free) = d .free in
+    let k = known i g (a .read) in
+    let h : p < 2 ^ 32 = omega (arith, at, free .0, bytes-length i g (a .read) i refl, k .short, k .inside, k .forward) in
+    rw f h
+
+pub add-refused : (i name : List ℕ) (kind : ℕ) (content : List ℕ) (r : Refusal) → added i name kind content .answer ≡ EditRefused r
+    → 2 ^ 32 ≤ addPlace i name kind content
+add-refused i name kind content r f = rw f (above r (add-refusal i name kind content r f .some-number))
+
+-- A component that is replaced or removed was found at its place.
+found-answered : (i name : List ℕ) (p : ℕ) (t : Taken) → findOf true i name ≡ At t → t .place ≡ p → p < 2 ^ 32
+found-answered i name p t f e = let h : t .place < 2 ^ 32 = rw f at (place-answered true i name t f) in omega arith
+
+pub replace-answered : (i name content : List ℕ) (p : ℕ) → Bytes i → replaced i name content .answer ≡ Done p → replacePlace i name content < 2 ^ 32
+replace-answered i name content p bytes f =
+    let (g, a, d) = replace-done-image i name content p bytes f in
+    let (t, found, at, kind) = d .was in
+    rw f (found-answered i name p t found at)
+
+pub replace-refused : (i name content : List ℕ) (r : Refusal) → replaced i name content .answer ≡ EditRefused r → 2 ^ 32 ≤ replacePlace i name content
+replace-refused i name content r f = rw f (above r (replace-refusal i name content r f .some-number))
+
+pub remove-answered : (i name : List ℕ) (p : ℕ) → removed i name .answer ≡ Done p → removePlace i name < 2 ^ 32
+remove-answered i name p f =
+    let (g, a, d) = remove-done-image i name p f in
+    let (t, found, at) = d .was in
+    rw f (found-answered i name p t found at)
+
+pub remove-refused : (i name : List ℕ) (r : Refusal) → removed i name .answer ≡ EditRefused r → 2 ^ 32 ≤ removePlace i name
+remove-refused i name r f = rw f (above r (remove-refusal i name r f .some-number))

@@ -1,66 +1,72 @@
 -- The places that refusals tell: a refusal fits one number, since its place is below 2^32.
-use Prim.Native.Nat.{ℕ, _≤_, _<_}
+use Prim.Native.Nat.{ℕ, _<_}
 use native.Mathlib.Omega.{arith}
-use mathlib.Core.Path.{_≡_, refl, sym, ap, _∙_}
+use mathlib.Core.Path.{_≡_, refl, ap, _∙_}
 use mathlib.Core.List.{List}
-use mathlib.Core.Logic.{_⊎_, inl, inr}
-use mathlib.Core.Bool.{Bool}
+use mathlib.Core.Bool.{Bool, true, false}
 use lib.ListN.{length}
-use Rattle.lookup.specs.Lookup.{Answer, refused, gives, lookupOf}
-use Rattle.walk.proofs.Picks.{carries-fits}
-use Rattle.terms.specs.Terms.{bytesOf, refusedBy}
+use lib.Dec.{eqb}
+use borrow.Author.Tests.{eqb-true, eqb-false}
+use Rattle.terms.specs.Terms.{bytesOf}
 use Rattle.terms.specs.declared.Region.{Region}
 use Rattle.terms.specs.declared.Refusal.{Refusal}
 use Rattle.terms.proofs.Regions.{bytes-inside}
 use Rattle.master.specs.Master.{master}
+use Rattle.master.specs.Table.{region}
 use Rattle.master.specs.declared.Master.{Master}
 use Rattle.master.specs.declared.Master.the-variants.{Read}
 use Rattle.master.specs.declared.Master.the-variants.{Refused as HeaderRefused}
-use Rattle.master.proofs.Facts.{Known, known, refused-place}
-use Rattle.strict.specs.Strict.{limit, Verdict, verdict, accepted}
-use Rattle.strict.specs.Strict.{refused as refusedAt}
-use Rattle.checker.specs.Directory.{directory}
-use Rattle.strict.proofs.Verdicts.{no-other, refused-12-lowest}
-use Rattle.region.specs.Region.{foundAt}
+use Rattle.master.proofs.Facts.{known, refused-place}
+use Rattle.master.proofs.Exactly.{master-read}
+use Rattle.editor.specs.Image.{Result, addIn, replaceIn, removeIn}
+use Rattle.editor.specs.declared.Edited.the-variants.{Refused as EditRefused}
+use Rattle.region.specs.declared.Step.the-variants.{Refused as StepRefused}
 use Rattle.region.specs.declared.Found.the-variants.{Refused as LookupRefused}
-use Rattle.reading.specs.Reading.{strictCheck}
+use Rattle.reading.specs.Reading.{strictCheck, stepOf}
 use Rattle.finding.specs.Finding.{findOf}
+use Rattle.editing.specs.Editing.{editOn, added, replaced, removed}
+use Rattle.claims.specs.Table.{PlaceFor, RefusalSays}
+use Rattle.claims.proofs.Refusing.{step-refusal, find-refusal, strict-place, add-refusal, replace-refusal, remove-refusal}
 
 -- The master header's refusals tell place 0.
 pub header-place : (i : List ℕ) (r : Refusal) → master i ≡ HeaderRefused r → r .place ≡ 0
 header-place i r e = ap (λ (x : Refusal). x .place) (refused-place i r e)
 
--- A lookup's refusals tell place 0.
-pub lookup-place : (w : Bool) (i name : List ℕ) (r : Refusal) → findOf w i name ≡ LookupRefused r → r .place ≡ 0
-lookup-place w i name r f = go (master i) refl f
-  where
-    by : (i : List ℕ) (g : Region) (o : Answer) → foundAt i g o ≡ LookupRefused r → r .place ≡ 0
-    by i g (refused n) q = let z : refusedBy n ≡ r = cc in sym (ap (λ (x : Refusal). x .place) z)
-    by i g (gives t) q = let z : _≡_ {A = ℕ} 0 1 = cc in absurd (omega arith)
+module _ (i : List ℕ) where
+  -- The place q of the number n, where q is 0 on an image whose master header is refused.
+  small : (n q : ℕ) → PlaceFor i n q → ((x : Refusal) → master i ≡ HeaderRefused x → q ≡ 0) → q < 4294967296
+  small n q s early = go (master i) refl (eqb n 12) refl
+    where
+      go : (m : Master) → master i ≡ m → (b : Bool) → eqb n 12 ≡ b → q < 4294967296
+      go (HeaderRefused x) e b h = omega (arith, early x e)
+      go (Read g) e false h = omega (arith, s .1 (eqb-false n 12 h))
+      go (Read g) e true h =
+          let (p, at, untaken, low) = s .0 (eqb-true n 12 h) in
+          let here : p < length (bytesOf i (region i)) = omega (arith, untaken .1 .0) in
+          omega (arith, at, here, bytes-inside i (region i) p here, known i (region i) (master-read i g e .1) .short)
 
-    go : (m : Master) → master i ≡ m → findOf w i name ≡ LookupRefused r → r .place ≡ 0
-    go (Read g) e q = by i g (lookupOf w (bytesOf i g) (g .align) name) (rw e at q)
-    go (HeaderRefused x) e q =
-        let h : LookupRefused x ≡ LookupRefused r = rw e at q in
-        let z : x ≡ r = cc in
-        header-place i r (e ∙ ap HeaderRefused z)
+  pub check-small : strictCheck i .place < 4294967296
+  check-small = small (strictCheck i .number) (strictCheck i .place) (strict-place i) (λ x e. rw e (header-place i x e))
 
--- The strict check's refusals tell a place of the image, or 0.
-pub check-place : (i : List ℕ) → strictCheck i .place ≤ 16777216
-check-place i = go (master i) refl
-  where
-    by : (g : Region) → Known i g → (v : Verdict) → verdict limit (bytesOf i g) (g .align) ≡ v → directory (g .start) v .place ≤ 16777216
-    by g k (accepted ps) q = omega arith
-    by g k (refusedAt n p) q = which (no-other limit (bytesOf i g) (g .align) n p q) q
-      where
-        which : (n ≡ 12) ⊎ ((n ≡ 13) × (p ≡ 0)) ⊎ ((n ≡ 11) × (p ≡ 0)) → verdict limit (bytesOf i g) (g .align) ≡ refusedAt n p → directory (g .start) (refusedAt n p) .place ≤ 16777216
-        which (inl e) v =
-            let s = refused-12-lowest limit (bytesOf i g) (g .align) p .0 (rw e at v) in
-            let h : p < length (bytesOf i g) = omega (arith, carries-fits (bytesOf i g) p (s .magic)) in
-            rw e (omega (arith, k .short, bytes-inside i g p h))
-        which (inr (inl e)) v = rw (e .0) (omega arith)
-        which (inr (inr e)) v = rw (e .0) (omega arith)
+  -- A refusal of a call that passes the master header's refusals on.
+  said : (r : Refusal) → RefusalSays i r → ((x : Refusal) → master i ≡ HeaderRefused x → x ≡ r) → r .place < 4294967296
+  said r s same = small (r .number) (r .place) (s .place) (λ x e. header-place i r (e ∙ ap HeaderRefused (same x e)))
 
-    go : (m : Master) → master i ≡ m → strictCheck i .place ≤ 16777216
-    go (Read g) e = rw e (by g (known i g e) (verdict limit (bytesOf i g) (g .align)) refl)
-    go (HeaderRefused r) e = rw e (omega (arith, header-place i r e))
+  pub step-small : (w : Bool) (from : ℕ) (r : Refusal) → stepOf w i from ≡ StepRefused r → r .place < 4294967296
+  step-small w from r f = said r (step-refusal i w from r f) (λ x e. let q : StepRefused x ≡ StepRefused r = rw e at f in cc)
+
+  pub lookup-small : (w : Bool) (name : List ℕ) (r : Refusal) → findOf w i name ≡ LookupRefused r → r .place < 4294967296
+  lookup-small w name r f = said r (find-refusal i w name r f .0) (λ x e. let q : LookupRefused x ≡ LookupRefused r = rw e at f in cc)
+
+  -- An edit: `call` is what it comes to over the region.
+  edit-small : (call : Region → Result) (r : Refusal) → editOn i (master i) call .answer ≡ EditRefused r → RefusalSays i r → r .place < 4294967296
+  edit-small call r f s = said r s (λ x e. let q : EditRefused x ≡ EditRefused r = rw e at f in cc)
+
+  pub add-small : (name : List ℕ) (kind : ℕ) (content : List ℕ) (r : Refusal) → added i name kind content .answer ≡ EditRefused r → r .place < 4294967296
+  add-small name kind content r f = edit-small (λ g. addIn i g name kind content) r f (add-refusal i name kind content r f)
+
+  pub replace-small : (name content : List ℕ) (r : Refusal) → replaced i name content .answer ≡ EditRefused r → r .place < 4294967296
+  replace-small name content r f = edit-small (λ g. replaceIn i g name content) r f (replace-refusal i name content r f)
+
+  pub remove-small : (name : List ℕ) (r : Refusal) → removed i name .answer ≡ EditRefused r → r .place < 4294967296
+  remove-small name r f = edit-small (λ g. removeIn i g name) r f (remove-refusal i name r f)

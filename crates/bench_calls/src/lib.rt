@@ -1,16 +1,28 @@
-// The calls that `bench/` times, exported to plain Rust. Each answers one number, for any bytes.
-// A count or a place stands in the lower 32 bits. A refusal has its number in the upper 32, and the place that it tells in the lower.
+// The calls that `bench/` times, and whose stack it measures, exported to plain Rust: one or more for each public call of the library.
+// Each answers one number, for any bytes.
+// A count, a length or a place stands in the lower 32 bits. A refusal has its number in the upper 32, and the place that it tells in the lower.
+use area::Area;
+use checker::MOST;
+use editor::Edited;
 use master::Master;
 use region::Found;
 use region::Step;
+use signature::Found as Signatures;
 use terms::Refusal;
 use terms::Region;
 ghost use mathlib.Core.Path.{_≡_};
 ghost use Prim.Native.Nat.{_<_};
+ghost use Rattle.terms.specs.declared.Refusal.{Refusal};
 ghost use Rattle.master.specs.Master.{master as masterOf};
 ghost use Rattle.master.specs.declared.Master.the-variants.{Read};
+ghost use Rattle.editor.specs.declared.Edited.the-variants.{Refused as EditRefused};
 ghost use Rattle.finding.specs.Finding.{findOf};
-ghost use Rattle.bench_calls.specs.Calls.{refusalNumber, countOf, plainCount, guardedCount, placeOf, plainPlace, guardedPlace, strictCount};
+ghost use Rattle.reading.specs.Reading.{stepOf};
+ghost use Rattle.editing.specs.Editing.{added, replaced, removed};
+ghost use Rattle.bench_calls.specs.Calls.{refusalNumber, valueOr, countOf, plainCount, guardedCount, placeOf, plainPlace, guardedPlace};
+ghost use Rattle.bench_calls.specs.Calls.{strictCount, strictPlace, editNumber, addPlace, replacePlace, removePlace, regionStart};
+ghost use Rattle.bench_calls.specs.Calls.{takenBy, plainTaken, guardedTaken, plainLength, guardedLength, nameLength, contentLength};
+ghost use Rattle.bench_calls.specs.Calls.{stageSource, payloadCount, segmentSource, areaCount, areaOffset, offsetAt, areaNameLength, signaturePlace};
 
 // A refusal as one number.
 fn refusal_number(r: Refusal) -> u64
@@ -18,6 +30,17 @@ fn refusal_number(r: Refusal) -> u64
     ensures { λ n. ⌜ n ≡ refusalNumber r ⌝ }
 {
     r.number as u64 * 4294967296 + r.place as u64
+}
+
+// The value, or the refusal where the number is not 0.
+fn value_or(number: u32, place: usize, value: usize) -> u64
+    requires { ⌜ place < 4294967296 ⌝ }
+    ensures { λ n. ⌜ n ≡ valueOr number place value ⌝ }
+{
+    if number == 0 {
+        return value as u64;
+    }
+    refusal_number(Refusal { number, place })
 }
 
 // How many components a walk lists: its steps from the region's start to none left. None of them is refused.
@@ -119,11 +142,253 @@ pub extern "C" fn bench_strict_count(image: &[u8]) -> u64
     ensures kept { λ _. ⌜ now (image .exit) ≡ now (image .entry) ⌝ }
 {
     let d = cbfs::strict_check(image);
-    if d.number == 0 {
-        return d.count as u64;
+    value_or(d.number, d.place, d.count)
+}
+
+// The k-th place of the directory, 0 past its end, or the same refusals. The directory is kept for it: where nobody reads its array, the
+// compiler leaves it out, and its stack is not seen.
+#[no_mangle]
+pub extern "C" fn bench_strict_place(image: &[u8], k: usize) -> u64
+    ensures { λ n. ⌜ n ≡ strictPlace (now (image .entry)) k ⌝ }
+    ensures kept { λ _. ⌜ now (image .exit) ≡ now (image .entry) ⌝ }
+{
+    let d = cbfs::strict_check(image);
+    if k < MOST {
+        return value_or(d.number, d.place, d.places[k]);
     }
-    refusal_number(Refusal {
-        number: d.number,
-        place: d.place,
-    })
+    value_or(d.number, d.place, 0)
+}
+
+// The place of the component that an edit wrote or removed, or its refusal.
+fn edit_number(e: Edited) -> u64
+    requires { ⌜ ((r : Refusal) → e ≡ EditRefused r → r .place < 4294967296) ⌝ }
+    ensures { λ n. ⌜ n ≡ editNumber e ⌝ }
+{
+    match e {
+        Edited::Done(p) => p as u64,
+        Edited::Refused(x) => refusal_number(x),
+    }
+}
+
+// The place of the component that is added, or refusals 1 to 8, 12, 13, 11, 14, 15, 13, 16 and 17.
+#[no_mangle]
+pub extern "C" fn bench_add(image: &mut [u8], name: &[u8], kind: u32, content: &[u8]) -> u64
+    ensures { λ n. ⌜ n ≡ addPlace (now (image .entry)) (now (name .entry)) kind (now (content .entry)) ⌝ }
+    ensures bytes { λ _. ⌜ now (image .exit) ≡ added (now (image .entry)) (now (name .entry)) kind (now (content .entry)) .image ⌝ }
+    ensures kept { λ _. ⌜ (now (name .exit) ≡ now (name .entry)) × (now (content .exit) ≡ now (content .entry)) ⌝ }
+{
+    let e = cbfs::add(image, name, kind, content);
+    edit_number(e)
+}
+
+// The place of the component that is replaced, or refusals 1 to 8, 12, 13, 11, 10, 16 and 17.
+#[no_mangle]
+pub extern "C" fn bench_replace(image: &mut [u8], name: &[u8], content: &[u8]) -> u64
+    ensures { λ n. ⌜ n ≡ replacePlace (now (image .entry)) (now (name .entry)) (now (content .entry)) ⌝ }
+    ensures bytes { λ _. ⌜ now (image .exit) ≡ replaced (now (image .entry)) (now (name .entry)) (now (content .entry)) .image ⌝ }
+    ensures kept { λ _. ⌜ (now (name .exit) ≡ now (name .entry)) × (now (content .exit) ≡ now (content .entry)) ⌝ }
+{
+    let e = cbfs::replace(image, name, content);
+    edit_number(e)
+}
+
+// The place of the component that is removed, or refusals 1 to 8, 12, 13, 11 and 10.
+#[no_mangle]
+pub extern "C" fn bench_remove(image: &mut [u8], name: &[u8]) -> u64
+    ensures { λ n. ⌜ n ≡ removePlace (now (image .entry)) (now (name .entry)) ⌝ }
+    ensures bytes { λ _. ⌜ now (image .exit) ≡ removed (now (image .entry)) (now (name .entry)) .image ⌝ }
+    ensures kept { λ _. ⌜ now (name .exit) ≡ now (name .entry) ⌝ }
+{
+    let e = cbfs::remove(image, name);
+    edit_number(e)
+}
+
+// Where the region begins, or refusals 1 to 8.
+#[no_mangle]
+pub extern "C" fn bench_region(image: &[u8]) -> u64
+    ensures { λ n. ⌜ n ≡ regionStart (now (image .entry)) ⌝ }
+    ensures kept { λ _. ⌜ now (image .exit) ≡ now (image .entry) ⌝ }
+{
+    let m = cbfs::region(image);
+    match m {
+        Master::Read(g) => g.start as u64,
+        Master::Refused(x) => refusal_number(x),
+    }
+}
+
+// A step of either walk.
+fn step(guarded: bool, image: &[u8], from: usize) -> Step
+    ensures { λ s. ⌜ s ≡ stepOf guarded (now (image .entry)) from ⌝ }
+{
+    if guarded {
+        return cbfs::guarded_step(image, from);
+    }
+    cbfs::plain_step(image, from)
+}
+
+// The place that a step takes, 2^32 - 1 where none is left, or the refusal.
+fn taken(guarded: bool, image: &[u8], from: usize) -> u64
+    ensures { λ n. ⌜ n ≡ takenBy guarded (now (image .entry)) from ⌝ }
+{
+    let s = step(guarded, image, from);
+    match s {
+        Step::Took(t) => t.place as u64,
+        Step::NoneLeft => 4294967295,
+        Step::Refused(x) => refusal_number(x),
+    }
+}
+
+// The place that a plain step takes, 2^32 - 1 where none is left, or refusals 1 to 9.
+#[no_mangle]
+pub extern "C" fn bench_plain_step(image: &[u8], from: usize) -> u64
+    ensures { λ n. ⌜ n ≡ plainTaken (now (image .entry)) from ⌝ }
+    ensures kept { λ _. ⌜ now (image .exit) ≡ now (image .entry) ⌝ }
+{
+    taken(false, image, from)
+}
+
+// The place that a guarded step takes, 2^32 - 1 where none is left, or refusals 1 to 9.
+#[no_mangle]
+pub extern "C" fn bench_guarded_step(image: &[u8], from: usize) -> u64
+    ensures { λ n. ⌜ n ≡ guardedTaken (now (image .entry)) from ⌝ }
+    ensures kept { λ _. ⌜ now (image .exit) ≡ now (image .entry) ⌝ }
+{
+    taken(true, image, from)
+}
+
+// How long the content is that the plain lookup gives; 0 on a refusal.
+#[no_mangle]
+pub extern "C" fn bench_plain_lookup(image: &[u8], name: &[u8]) -> u64
+    ensures { λ n. ⌜ n ≡ plainLength (now (image .entry)) (now (name .entry)) ⌝ }
+    ensures kept { λ _. ⌜ (now (image .exit) ≡ now (image .entry)) × (now (name .exit) ≡ now (name .entry)) ⌝ }
+{
+    cbfs::plain_lookup(image, name).len() as u64
+}
+
+// How long the content is that the guarded lookup gives; 0 on a refusal.
+#[no_mangle]
+pub extern "C" fn bench_guarded_lookup(image: &[u8], name: &[u8]) -> u64
+    ensures { λ n. ⌜ n ≡ guardedLength (now (image .entry)) (now (name .entry)) ⌝ }
+    ensures kept { λ _. ⌜ (now (image .exit) ≡ now (image .entry)) × (now (name .exit) ≡ now (name .entry)) ⌝ }
+{
+    cbfs::guarded_lookup(image, name).len() as u64
+}
+
+// How long the name of the component at a place is; 0 where none stands there.
+#[no_mangle]
+pub extern "C" fn bench_name_at(image: &[u8], place: usize) -> u64
+    ensures { λ n. ⌜ n ≡ nameLength (now (image .entry)) place ⌝ }
+    ensures kept { λ _. ⌜ now (image .exit) ≡ now (image .entry) ⌝ }
+{
+    cbfs::name_at(image, place).len() as u64
+}
+
+// How long the content of the component at a place is; 0 where none stands there.
+#[no_mangle]
+pub extern "C" fn bench_content_at(image: &[u8], place: usize) -> u64
+    ensures { λ n. ⌜ n ≡ contentLength (now (image .entry)) place ⌝ }
+    ensures kept { λ _. ⌜ now (image .exit) ≡ now (image .entry) ⌝ }
+{
+    cbfs::content_at(image, place).len() as u64
+}
+
+// Where the binary of a stage stands in the image, or refusals 1 to 8, 10, 11, 18, 19 and 22 to 25.
+#[no_mangle]
+pub extern "C" fn bench_stage(image: &[u8], name: &[u8]) -> u64
+    ensures { λ n. ⌜ n ≡ stageSource (now (image .entry)) (now (name .entry)) ⌝ }
+    ensures kept { λ _. ⌜ (now (image .exit) ≡ now (image .entry)) × (now (name .exit) ≡ now (name .entry)) ⌝ }
+{
+    let p = cbfs::stage(image, name);
+    value_or(p.number, 0, p.source)
+}
+
+// How many segments a payload has, or refusals 1 to 8, 10, 11 and 18 to 26.
+#[no_mangle]
+pub extern "C" fn bench_payload(image: &[u8], name: &[u8]) -> u64
+    ensures { λ n. ⌜ n ≡ payloadCount (now (image .entry)) (now (name .entry)) ⌝ }
+    ensures kept { λ _. ⌜ (now (image .exit) ≡ now (image .entry)) × (now (name .exit) ≡ now (name .entry)) ⌝ }
+{
+    let p = cbfs::payload(image, name);
+    value_or(p.number, 0, p.count)
+}
+
+// Where the source of a payload's k-th segment stands in the image, 0 past a plan's 16, or the same refusals. The plan is kept for it.
+#[no_mangle]
+pub extern "C" fn bench_segment(image: &[u8], name: &[u8], k: usize) -> u64
+    ensures { λ n. ⌜ n ≡ segmentSource (now (image .entry)) (now (name .entry)) k ⌝ }
+    ensures kept { λ _. ⌜ (now (image .exit) ≡ now (image .entry)) × (now (name .exit) ≡ now (name .entry)) ⌝ }
+{
+    let p = cbfs::payload(image, name);
+    if k < 16 {
+        let s = p.segments[k];
+        return value_or(p.number, 0, s.source);
+    }
+    value_or(p.number, 0, 0)
+}
+
+// How many areas the flash map has, or refusals 1 and 27 to 37.
+#[no_mangle]
+pub extern "C" fn bench_fmap(image: &[u8]) -> u64
+    ensures { λ n. ⌜ n ≡ areaCount (now (image .entry)) ⌝ }
+    ensures kept { λ _. ⌜ now (image .exit) ≡ now (image .entry) ⌝ }
+{
+    let m = fmap::read(image);
+    value_or(m.number, 0, m.count)
+}
+
+// The offset of the flash map's k-th area, 0 past a map's 256, or the same refusals. The map is kept for it.
+#[no_mangle]
+pub extern "C" fn bench_area(image: &[u8], k: usize) -> u64
+    ensures { λ n. ⌜ n ≡ areaOffset (now (image .entry)) k ⌝ }
+    ensures kept { λ _. ⌜ now (image .exit) ≡ now (image .entry) ⌝ }
+{
+    let m = fmap::read(image);
+    if k < 256 {
+        let a = m.areas[k];
+        return value_or(m.number, 0, a.offset);
+    }
+    value_or(m.number, 0, 0)
+}
+
+// The same of the map that stands at a place, judged against a size; or refusals 29 to 37.
+#[no_mangle]
+pub extern "C" fn bench_map_at(image: &[u8], at: usize, size: usize, k: usize) -> u64
+    ensures { λ n. ⌜ n ≡ offsetAt (now (image .entry)) at size k ⌝ }
+    ensures kept { λ _. ⌜ now (image .exit) ≡ now (image .entry) ⌝ }
+{
+    let m = fmap::map_at(image, at, size);
+    if k < 256 {
+        let a = m.areas[k];
+        return value_or(m.number, 0, a.offset);
+    }
+    value_or(m.number, 0, 0)
+}
+
+// How long the name of an area is whose name stands at a place; 0 where none does.
+#[no_mangle]
+pub extern "C" fn bench_area_name(image: &[u8], place: usize) -> u64
+    ensures { λ n. ⌜ n ≡ areaNameLength (now (image .entry)) place ⌝ }
+    ensures kept { λ _. ⌜ now (image .exit) ≡ now (image .entry) ⌝ }
+{
+    let a = Area {
+        offset: 0,
+        size: 0,
+        flags: 0,
+        name: place,
+    };
+    fmap::name(image, a).len() as u64
+}
+
+// The place of the only signature of a flash map, or 27 where there is none, and 28 where there are several.
+#[no_mangle]
+pub extern "C" fn bench_signatures(image: &[u8]) -> u64
+    ensures { λ n. ⌜ n ≡ signaturePlace (now (image .entry)) ⌝ }
+    ensures kept { λ _. ⌜ now (image .exit) ≡ now (image .entry) ⌝ }
+{
+    let f = fmap::signatures(image);
+    match f {
+        Signatures::At(p) => p as u64,
+        Signatures::Nothing => refusal_number(terms::refused(27)),
+        Signatures::Several => refusal_number(terms::refused(28)),
+    }
 }

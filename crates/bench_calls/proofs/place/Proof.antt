@@ -1,7 +1,6 @@
-use native.Mathlib.Omega.{arith}
 use mathlib.Core.Path.{sym, ap, _∙_}
 use Rattle.bench_calls.specs.Calls.{placeNumber}
-use Rattle.bench_calls.proofs.Refusing.{lookup-place}
+use Rattle.bench_calls.proofs.Refusing.{lookup-small}
 use borrow.Author.Needs.{needs}
 use Rattle.bench_calls.proofs.place.Statement.{statement}
 use Rattle.bench_calls.proofs.place.Tie as tie
@@ -20,7 +19,7 @@ refusal-number-requires : tie.Need-refusal-number-requires
 refusal-number-requires c κs =
     let m = c .before in
     let a = m .before .before .before .before .before .args in
-    omega (arith, lookup-place (a .guarded) (a .image .now) (a .name .now) _ (sym (m .before .before .find .ensures) ∙ m .f2 .given .1))
+    lookup-small (a .image .now) (a .guarded) (a .name .now) _ (sym (m .before .before .find .ensures) ∙ m .f2 .given .1)
 
 returns : tie.Need-returns
 returns c =

@@ -1,0 +1,17 @@
+use mathlib.Core.Path.{_∙_}
+use borrow.Author.Tests.{eq-eqb, ne-eqb}
+use borrow.Author.Needs.{needs}
+use Rattle.bench_calls.proofs.value_or.Statement.{statement}
+use Rattle.bench_calls.proofs.value_or.Tie as tie
+
+returns : tie.Need-returns
+returns c = rw (eq-eqb _ _ (c .if1 .taken))
+
+refusal-number-requires : tie.Need-refusal-number-requires
+refusal-number-requires c κs = search needs
+
+returns-2 : tie.Need-returns-2
+returns-2 c = c .refusal-number .ensures ∙ rw (ne-eqb _ _ (c .before .if1 .left))
+
+pub value-or-spec : {M : Type 1} → statement M
+value-or-spec = tie.close (tie.spec returns refusal-number-requires returns-2)
