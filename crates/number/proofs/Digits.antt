@@ -1,6 +1,6 @@
 -- Laws of the numbers in bytes, each over the width.
 use Prim.Native.Nat.{ℕ, zero, suc, _+_, _*_, _/_, _%_, _^_, _≤_, _<_}
-use mathlib.Core.Path.{_≡_, refl, sym, ap}
+use mathlib.Core.Path.{_≡_, refl, sym}
 use mathlib.Core.List.{List, [], _∷_, _++_, append-assoc}
 use native.Mathlib.Nat.{div-add-mod', div-lt-iff-lt-mul, pow-suc, add-zero, zero-add, add-suc, suc-add}
 use native.Mathlib.Omega.{arith}
@@ -105,11 +105,6 @@ pub length-beBytes : (w v : ℕ) → length (beBytes w v) ≡ w
 unfolding beBytes
 length-beBytes zero v = refl
 length-beBytes (suc w) v = simp length-append (omega (arith, length-beBytes w (v / 256)))
-
-pub length-leBytes : (w v : ℕ) → length (leBytes w v) ≡ w
-unfolding leBytes
-length-leBytes zero v = refl
-length-leBytes (suc w) v = ap suc (length-leBytes w (v / 256))
 
 shorter : (w v : ℕ) → v < 256 ^ suc w → v / 256 < 256 ^ w
 shorter w v h = div-lt-iff-lt-mul {k = 256} (omega arith) .1 (rw pow-suc at h)
