@@ -137,7 +137,8 @@ pub fn name(s: &[u8]) -> &[u8]
 }
 
 // The component that stands at the start of the part bears the name. Where the name field does not begin with the name and a zero, the judge is
-// not asked. No component's name is longer than 255 bytes, and no longer one is compared.
+// not asked; the zero is tested first, since one byte tells most names of another length apart. No component's name is longer than 255 bytes, and
+// no longer one is compared.
 pub fn is_named(s: &[u8], name: &[u8]) -> bool
     ensures { λ b. ⌜ b ≡ bearsName (now (name .entry)) (judgeOf (now (s .entry))) ⌝ }
     ensures kept { λ _. ⌜ (now (s .exit) ≡ now (s .entry)) × (now (name .exit) ≡ now (name .entry)) ⌝ }
@@ -146,10 +147,10 @@ pub fn is_named(s: &[u8], name: &[u8]) -> bool
     if 255 < asked {
         return false;
     }
-    if !number::equal(number::part(s, 24, asked), name) {
+    if number::byte(s, 24 + asked) != 0 {
         return false;
     }
-    if number::byte(s, 24 + asked) != 0 {
+    if !number::equal_by_words(number::part(s, 24, asked), name) {
         return false;
     }
     let j = judge(s);

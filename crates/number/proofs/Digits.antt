@@ -1,5 +1,5 @@
 -- Laws of the numbers in bytes, each over the width.
-use Prim.Native.Nat.{ℕ, zero, suc, _+_, _*_, _/_, _%_, _^_, _≤_, _<_}
+use Prim.Native.Nat.{ℕ, zero, suc, _+_, _-_, _*_, _/_, _%_, _^_, _≤_, _<_}
 use mathlib.Core.Path.{_≡_, refl, sym}
 use mathlib.Core.List.{List, [], _∷_, _++_, append-assoc}
 use native.Mathlib.Nat.{div-add-mod', div-lt-iff-lt-mul, pow-suc, add-zero, zero-add, add-suc, suc-add}
@@ -82,12 +82,26 @@ le-same zero s s′ i h = refl
 le-same (suc w) s s′ i h = rw (le-same w s s′ (i + 1) (λ j l k. h j (omega arith) (omega arith)), h i (omega arith) (omega arith))
 
 -- In a part of the bytes it is the same as in the whole.
+
 pub be-within : (w : ℕ) (s : List ℕ) (a n i : ℕ) → i + w ≤ n → be w (take n (drop a s)) i ≡ be w s (a + i)
 unfolding be
 be-within zero s a n i h = refl
 be-within (suc w) s a n i h =
     let e : a + (i + w) ≡ a + i + w = omega arith in
     rw (be-within w s a n i (omega arith), getD-take n (drop a s) (i + w) 0 (omega arith), getD-drop a s (i + w) 0, e)
+
+pub le-within : (w : ℕ) (s : List ℕ) (a n i : ℕ) → i + w ≤ n → le w (take n (drop a s)) i ≡ le w s (a + i)
+unfolding le
+le-within zero s a n i h = refl
+le-within (suc w) s a n i h =
+    let e : a + (i + 1) ≡ a + i + 1 = omega arith in
+    rw (le-within w s a n (i + 1) (omega arith), getD-take n (drop a s) i 0 (omega arith), getD-drop a s i 0, e)
+
+-- Read in the part that is cut out for it.
+pub le-cut : (w : ℕ) (s : List ℕ) (i : ℕ) → le w (take (i + w - i) (drop i s)) 0 ≡ le w s i
+le-cut w s i =
+    let n : i + w - i ≡ w = omega arith in
+    rw (n, le-within w s i w 0 (omega arith), add-zero i)
 
 -- It tells them: two numbers that are equal have the same bytes.
 pub le-tells : (w : ℕ) (s t : List ℕ) (i : ℕ) → ((j : ℕ) → getD s j 0 < 256) → ((j : ℕ) → getD t j 0 < 256) → le w s i ≡ le w t i → (j : ℕ) → i ≤ j → j < i + w → getD s j 0 ≡ getD t j 0

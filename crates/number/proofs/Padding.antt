@@ -5,7 +5,7 @@ use native.Mathlib.Omega.{arith}
 use native.Mathlib.Decide.{decLt}
 use mathlib.Core.Path.{_≡_, refl, sym, _∙_}
 use mathlib.Core.List.{List, [], _∷_, _++_, append-assoc}
-use lib.ListN.{length, take, drop, getD, set, replicate, length-append, length-replicate, List·getD-append, List·getD-eq-default, getD-replicate}
+use lib.ListN.{length, take, drop, getD, set, replicate, length-append, length-replicate, List·getD-append, List·getD-eq-default, getD-replicate, replicate-append-replicate}
 use lib.Seq.{set-at, take-at, drop-append-seam, getD-append-add}
 use Rattle.number.specs.Lists.{padded}
 
@@ -51,3 +51,14 @@ module _ {A : Type 0} (w : ℕ) (x : A) where
     where
       go : (j : ℕ) → k ≡ length l + j → getD (l ++ replicate (w - length l) x) k x ≡ x
       go j e = rw e (getD-append-add l (replicate (w - length l) x) j x ∙ filling (w - length l) j)
+
+  pub length-padded : (l : List A) → length l ≤ w → length (padded w x l) ≡ w
+  unfolding padded
+  length-padded l h = simp length-append (rw (length-replicate {A = A} (w - length l) x) (omega arith))
+
+  -- Filled up further: as many x more.
+  pub padded-longer : (v : ℕ) (l : List A) → length l ≤ w → w ≤ v → padded v x l ≡ padded w x l ++ replicate (v - w) x
+  unfolding padded
+  padded-longer v l h k =
+      let e : v - length l ≡ w - length l + (v - w) = omega arith in
+      rw (e, ← replicate-append-replicate (w - length l) (v - w) x) (sym (append-assoc l (replicate (w - length l) x) (replicate (v - w) x)))

@@ -1,12 +1,12 @@
 -- Laws of eqBytes, for a loop over the indices and for whoever compares.
-use Prim.Native.Nat.{ℕ, suc, _+_, _-_, _≤_, _<_}
+use Prim.Native.Nat.{ℕ, suc, _≤_, _<_}
 use native.Mathlib.Omega.{arith}
+use native.Mathlib.Decide.{decLt}
 use mathlib.Core.Path.{_≡_, refl, sym, ap, _∙_}
 use mathlib.Core.Bool.{Bool, true, false, cond, true≢false, false≢true}
 use mathlib.Core.List.{List, [], _∷_}
-use native.Mathlib.Numerals.{add-one}
-use lib.ListN.{length, drop, getD, drop-of-length-le}
-use lib.Seq.{drop-cons}
+use lib.ListN.{length, getD}
+use lib.Seq.{ext-getD}
 use lib.Dec.{eqb}
 use borrow.Author.Tests.{eq-eqb, eqb-true}
 use Rattle.number.specs.Bytes.{eqBytes}
@@ -21,19 +21,6 @@ eq-length (x ∷ a) (y ∷ b) h = rw (eq-length a b (λ e. h (ap suc e))) (cond-
     cond-false : (t : Bool) → cond t false false ≡ false
     cond-false true = refl
     cond-false false = refl
-
-pub eq-here : (a b : List ℕ) (i : ℕ) → i < length a → i < length b → getD a i 0 ≡ getD b i 0
-    → eqBytes (drop i a) (drop i b) ≡ eqBytes (drop (i + 1) a) (drop (i + 1) b)
-unfolding eqBytes
-eq-here a b i ha hb e = rw (add-one, drop-cons a i 0 ha, drop-cons b i 0 hb, eq-eqb (getD a i 0) (getD b i 0) e)
-
-pub eq-done : (a b : List ℕ) (i : ℕ) → length a ≤ i → length b ≤ i → eqBytes (drop i a) (drop i b) ≡ true
-unfolding eqBytes
-eq-done a b i ha hb = rw (drop-of-length-le a ha, drop-of-length-le b hb)
-
--- From the bytes from i on to one more before them.
-pub eq-back : (a b : List ℕ) (i : ℕ) → 0 < i → i ≤ length a → i ≤ length b → getD a (i - 1) 0 ≡ getD b (i - 1) 0 → eqBytes (drop i a) (drop i b) ≡ true → eqBytes (drop (i - 1) a) (drop (i - 1) b) ≡ true
-eq-back a b i p ha hb e t = let n : i - 1 + 1 ≡ i = omega arith in eq-here a b (i - 1) (omega arith) (omega arith) e ∙ rw n t
 
 -- The test says that the bytes are the same, and nothing else.
 pub eq-true : (a b : List ℕ) → eqBytes a b ≡ true → a ≡ b
@@ -52,12 +39,27 @@ unfolding eqBytes
 eq-refl [] = refl
 eq-refl (x ∷ a) = rw (eq-eqb x x refl) (eq-refl a)
 
--- One byte that differs.
-pub eq-differ : (a b : List ℕ) (i : ℕ) → (getD a i 0 ≡ getD b i 0 → ⊥) → eqBytes a b ≡ false
-eq-differ a b i h = go (eqBytes a b) refl
+-- The two agree on the bytes from i up to e; on those up to m and from m on; on all.
+
+abbrev pub Agree : List ℕ → List ℕ → ℕ → ℕ → Type 0
+Agree a b i e = (j : ℕ) → i ≤ j → j < e → getD a j 0 ≡ getD b j 0
+
+pub agree-on : (a b : List ℕ) (i m e : ℕ) → Agree a b i m → Agree a b m e → Agree a b i e
+agree-on a b i m e p q j l h = go (decLt j m)
+  where
+    go : Dec (j < m) → getD a j 0 ≡ getD b j 0
+    go (yes k) = p j l k
+    go (no k) = q j (omega arith) h
+
+pub eq-agree : (a b : List ℕ) → length a ≡ length b → Agree a b 0 (length a) → eqBytes a b ≡ true
+eq-agree a b l h = rw (ext-getD 0 a b l (λ j k. h j (omega arith) k)) (eq-refl b)
+
+-- What is read of the bytes differs.
+pub eq-differ : (read : List ℕ → ℕ) (a b : List ℕ) → (read a ≡ read b → ⊥) → eqBytes a b ≡ false
+eq-differ read a b h = go (eqBytes a b) refl
   where
     go : (t : Bool) → eqBytes a b ≡ t → eqBytes a b ≡ false
-    go true e = absurd (h (ap (λ (x : List ℕ). getD x i 0) (eq-true a b e)))
+    go true e = absurd (h (ap read (eq-true a b e)))
     go false e = e
 
 -- The two may change places.

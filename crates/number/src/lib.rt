@@ -1,7 +1,7 @@
 // Numbers in bytes, parts of bytes, and bytes compared. What writes bytes stands in the crate `store`.
-// Every function takes any bytes and any numbers: a byte past the end reads as 0.
+// Every public function takes any bytes and any numbers: a byte past the end reads as 0.
 ghost use mathlib.Core.Path.{_≡_};
-ghost use Prim.Native.Nat.{min};
+ghost use Prim.Native.Nat.{_+_, _≤_, min};
 ghost use lib.ListN.{length, drop, getD};
 ghost use Rattle.number.specs.Number.{be, le, turned as turnedOf};
 ghost use Rattle.number.specs.Bytes.{partOf, eqBytes};
@@ -55,6 +55,14 @@ pub fn le64(s: &[u8], at: usize) -> u64
     le32(s, at) as u64 + le32(s, at + 4) as u64 * 4294967296
 }
 
+// The same where eight bytes stand there. They are cut out first, so that the compiler makes one load of them.
+fn word(s: &[u8], at: usize) -> u64
+    requires { ⌜ at + 8 ≤ length (now s) ⌝ }
+    ensures { λ r. ⌜ r ≡ le 8 (now (s .entry)) at ⌝ }
+{
+    le64(&s[at..at + 8], 0)
+}
+
 // A 32-bit number with its four bytes in the other order. The compiler makes one instruction of it, and of a little-endian number one load.
 fn turned(v: u32) -> u32
     ensures { λ r. ⌜ r ≡ turnedOf v ⌝ }
@@ -106,7 +114,23 @@ pub fn rest(s: &[u8], at: usize) -> &[u8]
     &s[at..]
 }
 
-// The two hold the same bytes. They are compared from the last byte on: names that differ mostly begin alike.
+// The same bytes, where there are as many of them, compared one by one from the last on.
+fn equal_bytes(a: &[u8], b: &[u8]) -> bool
+    requires { ⌜ length (now a) ≡ length (now b) ⌝ }
+    ensures { λ r. ⌜ r ≡ eqBytes (now (a .entry)) (now (b .entry)) ⌝ }
+{
+    let mut i = a.len();
+    while 0 < i {
+        i -= 1;
+        if a[i] != b[i] {
+            return false;
+        }
+    }
+    true
+}
+
+// The two hold the same bytes. They are compared from the last byte on: names that differ mostly begin alike. It is short, and is compiled into the
+// lookups.
 pub fn equal(a: &[u8], b: &[u8]) -> bool
     ensures { λ r. ⌜ r ≡ eqBytes (now (a .entry)) (now (b .entry)) ⌝ }
     ensures kept { λ _. ⌜ (now (a .exit) ≡ now (a .entry)) × (now (b .exit) ≡ now (b .entry)) ⌝ }
@@ -114,12 +138,30 @@ pub fn equal(a: &[u8], b: &[u8]) -> bool
     if a.len() != b.len() {
         return false;
     }
-    let mut i = a.len();
-    while 0 < i {
-        i -= 1;
-        if a[i] != b[i] {
+    equal_bytes(a, b)
+}
+
+// The same, for bytes that are long and agree for the most part. Eight are compared at a time, as one number, the last eight first.
+pub fn equal_by_words(a: &[u8], b: &[u8]) -> bool
+    ensures { λ r. ⌜ r ≡ eqBytes (now (a .entry)) (now (b .entry)) ⌝ }
+    ensures kept { λ _. ⌜ (now (a .exit) ≡ now (a .entry)) × (now (b .exit) ≡ now (b .entry)) ⌝ }
+{
+    let n = a.len();
+    if n != b.len() {
+        return false;
+    }
+    if n < 8 {
+        return equal_bytes(a, b);
+    }
+    if word(a, n - 8) != word(b, n - 8) {
+        return false;
+    }
+    let mut i = 0;
+    while i + 8 < n {
+        if word(a, i) != word(b, i) {
             return false;
         }
+        i += 8;
     }
     true
 }

@@ -12,38 +12,37 @@ use Rattle.component.proofs.is_named.Tie as tie
 returns : tie.Need-returns
 returns c = let a = c .before .before .before .args in (too-long (a .s .now) (a .name .now) (c .if1 .taken), (refl, refl))
 
-part-requires : tie.Need-part-requires
-part-requires c κs = search needs
-
-equal-requires : tie.Need-equal-requires
-equal-requires c κs = search needs
-
--- where the paths begin
-abbrev start : tie.After-part → tie.Start
-start c = c .before .before .before .before
-
--- the comparison of the field with the name
-compared : (c : tie.After-equal) → let a = start (c .before) .args in c .equal .result ≡ eqBytes (partOf (a .s .now) 24 (length (a .name .now))) (a .name .now)
-compared c = let a = start (c .before) .args in c .equal .ensures .0 ∙ ap (λ (x : List ℕ). eqBytes x (a .name .now)) (c .before .part .ensures .0)
-
-returns-2 : tie.Need-returns-2
-returns-2 c =
-    let q = c .before in
-    let a = start (q .before) .args in
-    (other-field (a .s .now) (a .name .now) (sym (compared q) ∙ not-true _ (c .if2 .taken)), (refl, refl))
-
 add-byte : tie.Need-add-byte
 add-byte c = search needs
 
 byte-requires : tie.Need-byte-requires
 byte-requires c κs = search needs
 
+returns-2 : tie.Need-returns-2
+returns-2 c =
+    let b = c .before in
+    let a = b .before .before .before .before .args in
+    (longer-name (a .s .now) (a .name .now) (λ e. c .if2 .taken (b .byte .ensures .0 ∙ e)), (refl, refl))
+
+part-requires : tie.Need-part-requires
+part-requires c κs = search needs
+
+equal-by-words-requires : tie.Need-equal-by-words-requires
+equal-by-words-requires c κs = search needs
+
+-- where the paths begin
+abbrev start : tie.After-part → tie.Start
+start c = c .before .before .before .before .before .before
+
+-- the comparison of the field with the name
+compared : (c : tie.After-equal-by-words) → let a = start (c .before) .args in c .equal-by-words .result ≡ eqBytes (partOf (a .s .now) 24 (length (a .name .now))) (a .name .now)
+compared c = let a = start (c .before) .args in c .equal-by-words .ensures .0 ∙ ap (λ (x : List ℕ). eqBytes x (a .name .now)) (c .before .part .ensures .0)
+
 returns-3 : tie.Need-returns-3
 returns-3 c =
-    let b = c .before in
-    let q = b .before .before in
+    let q = c .before in
     let a = start (q .before) .args in
-    (longer-name (a .s .now) (a .name .now) (λ e. c .if3 .taken (b .byte .ensures .0 ∙ e)), (refl, refl))
+    (other-field (a .s .now) (a .name .now) (sym (compared q) ∙ not-true _ (c .if3 .taken)), (refl, refl))
 
 judge-requires : tie.Need-judge-requires
 judge-requires c κs = search needs
@@ -55,15 +54,15 @@ enum-told : tie.Need-enum-told
 enum-told c = search needs
 
 -- the field begins with the name
-abbrev field : tie.After-judge → tie.Else2
-field c = c .before .before .before
+abbrev field : tie.After-judge → tie.Else3
+field c = c .before
 
 returns-4 : tie.Need-returns-4
 returns-4 c =
     let j = c .before .before .before .before in
     let q = field j in
     let a = start (q .before .before) .args in
-    let begins = sym (compared (q .before)) ∙ not-false _ (q .if2 .left) in
+    let begins = sym (compared (q .before)) ∙ not-false _ (q .if3 .left) in
     (as-long (a .s .now) (a .name .now) begins _ (sym (j .judge .ensures .0) ∙ c .before .before .j .given .1), (refl, refl))
 
 returns-5 : tie.Need-returns-5
@@ -77,11 +76,11 @@ is-named-spec =
     tie.close
     (tie.spec
     returns
-    part-requires
-    equal-requires
-    returns-2
     add-byte
     byte-requires
+    returns-2
+    part-requires
+    equal-by-words-requires
     returns-3
     judge-requires
     enum-known-j
