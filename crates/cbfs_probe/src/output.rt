@@ -2,7 +2,7 @@
 use libc::STDOUT_FILENO;
 
 // Room for any answer. Each byte of a 65,536-byte image becomes at most two digits, and a component, which takes 40 bytes of it or more,
-// adds at most 31 to its line; 256 places or areas take less.
+// adds at most 31 to its line: less than 182,000 bytes. A directory of 1,024 places takes 6 bytes for each, a map of 256 areas less than 32 for each.
 pub(crate) type Page = [u8; 262144];
 
 // The word that a line begins with, and blanks.

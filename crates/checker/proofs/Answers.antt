@@ -12,12 +12,12 @@ use lib.Seq.{take-at}
 use Rattle.walk.specs.Walk.{Entry, plainListing}
 use Rattle.walk.proofs.Members.{given}
 use Rattle.strict.specs.Strict.{limit, toldApart, placesOf, Verdict, refused, accepted, verdict}
-use Rattle.checker.specs.Directory.{noPlaces, directory, surveyed, placesIn, Passed, apartAt}
+use Rattle.checker.specs.Directory.{noPlaces, directory, surveyed, placesIn, NameDigests, entryPlace, entryDigest, Passed, apartAt}
 use Rattle.checker.specs.declared.Directory.{Directory}
 use Rattle.checker.specs.declared.Surveyed.{Surveyed}
 use Rattle.checker.specs.declared.Pass.{Pass}
 use Rattle.strict.proofs.Verdicts.{refused-13, refused-11, accepts, accepted-exactly, no-other}
-use Rattle.checker.proofs.Names.{apart-told}
+use Rattle.checker.proofs.Names.{digests-listed, apart-told}
 use Rattle.checker.proofs.Directories.{fill-over, toldTo, told-padded, cleared-zeros}
 
 -- Where every component of a listing stands below m, so do the places one by one.
@@ -26,11 +26,11 @@ place-below m [] h k q = absurd (omega arith)
 place-below m (e ∷ l) h zero q = h e (List·Memᴰ·head refl)
 place-below m (e ∷ l) h (suc k) q = place-below m l (λ x t. h x (List·Memᴰ·tail t)) k (le-of-suc-le-suc q)
 
--- s is the region's start, d what the lent array held, d′ what it holds after the pass.
-pub passed-at : {r r′ : List ℕ} {a : ℕ} {d d′ : List ℕ} {p : Pass} → r ≡ r′ → Passed r a d d′ p → Passed r′ a d d′ p
-passed-at {a = a} {d = d} {d′ = d′} {p = p} e y = subst (λ (x : List ℕ). Passed x a d d′ p) e y
+-- s is the region's start, d what the lent array held, d′ what it holds after the pass; e and e′ the same of the array of digests.
+pub passed-at : {r r′ : List ℕ} {a : ℕ} {d d′ e e′ : List ℕ} {p : Pass} → r ≡ r′ → Passed r a d d′ e e′ p → Passed r′ a d d′ e e′ p
+passed-at {a = a} {d = d} {d′ = d′} {e = e} {e′ = e′} {p = p} q y = subst (λ (x : List ℕ). Passed x a d d′ e e′ p) q y
 
-module _ {r : List ℕ} {a : ℕ} {d d′ : List ℕ} {p : Pass} (says : Passed r a d d′ p) (most : ℕ) where
+module _ {r : List ℕ} {a : ℕ} {d d′ e e′ : List ℕ} {p : Pass} (says : Passed r a d d′ e e′ p) (most : ℕ) where
   pub refused-astray : p .astray ≡ true → verdict most r a ≡ refused 12 (p .place)
   refused-astray q = says .stray q .0 most
 
@@ -45,14 +45,16 @@ module _ {r : List ℕ} {a : ℕ} {d d′ : List ℕ} {p : Pass} (says : Passed 
       places-are : d′ ≡ placesOf (plainListing r a) ++ drop (length (placesOf (plainListing r a))) d
       places-are =
           let c = says .clean clear in
-          c .2 ∙ fill-over d (plainListing r a) (omega (arith, few, long, c .1))
+          c .2 ∙ fill-over entryPlace d (plainListing r a) (omega (arith, few, long, c .1))
           ∙ ap (λ (n : ℕ). placesOf (plainListing r a) ++ drop n d) (sym (length-map (plainListing r a) (λ t. t .place)))
 
       in-use : take (p .count) d′ ≡ placesOf (plainListing r a)
       in-use = rw places-are (take-at (placesOf (plainListing r a)) _ (p .count) (sym counted))
 
-      pub places-long : p .count ≤ length d′
-      places-long = rw places-are (simp length-append (omega (arith, counted)))
+      pub digests-are : most ≤ length e → NameDigests r d′ (p .count) e′
+      digests-are wide =
+          let c = says .clean clear in
+          digests-listed r a (p .count) _ _ (c .1) places-are (c .3 ∙ fill-over entryDigest e (plainListing r a) (omega (arith, few, wide, c .1)))
 
       pub apart-said : apartAt r (take (p .count) d′) ≡ toldApart (plainListing r a)
       apart-said = ap (apartAt r) in-use ∙ apart-told r a
@@ -96,16 +98,16 @@ survey-fine r a s x e h = go (verdict limit r a) refl e
 
 -- The places that a survey stores over zeros, and the same told from s: the directory's.
 module _ (r : List ℕ) (a s : ℕ) where
-  pub count-room : (v : Verdict) → surveyed s v .count ≤ length (placesIn noPlaces v)
+  pub count-room : (v : Verdict) → surveyed s v .count ≤ length (placesIn (noPlaces limit) v)
   count-room (refused n p) = omega arith
   count-room (accepted ps) = simp length-append (omega arith)
 
-  pub place-inside : (v : Verdict) → verdict limit r a ≡ v → (k : ℕ) → k < surveyed s v .count → getD (placesIn noPlaces v) k 0 < length r
+  pub place-inside : (v : Verdict) → verdict limit r a ≡ v → (k : ℕ) → k < surveyed s v .count → getD (placesIn (noPlaces limit) v) k 0 < length r
   place-inside (refused n p) e k h = absurd (omega arith)
   place-inside (accepted ps) e k h =
       let q = accepted-exactly r a ps .0 e .1 in
       let n : k < length (plainListing r a) = omega (arith, h, ap length q, length-map (plainListing r a) (λ t. t .place)) in
-      let g : getD (ps ++ drop (length ps) noPlaces) k 0 ≡ getD (placesOf (plainListing r a)) k 0
+      let g : getD (ps ++ drop (length ps) (noPlaces limit)) k 0 ≡ getD (placesOf (plainListing r a)) k 0
       = List·getD-append ps _ 0 k h ∙ ap (λ (x : List ℕ). getD x k 0) q in
       omega (arith, g, place-below (length r) (plainListing r a) (λ t m. given false r a t m .inside) k n)
 
@@ -113,6 +115,6 @@ module _ (r : List ℕ) (a s : ℕ) where
   abbrev listed : Surveyed → List ℕ → Directory
   listed x d = record { number = x .number; place = x .place; count = x .count; places = toldTo s d (x .count) }
 
-  pub told-directory : (v : Verdict) → listed (surveyed s v) (placesIn noPlaces v) ≡ directory s v
-  told-directory (refused n p) = ap (λ (x : List ℕ). record { number = n; place = cond (eqb n 12) (s + p) 0; count = 0; places = x }) cleared-zeros
-  told-directory (accepted ps) = ap (λ (x : List ℕ). record { number = 0; place = 0; count = length ps; places = x }) (told-padded s ps)
+  pub told-directory : (v : Verdict) → listed (surveyed s v) (placesIn (noPlaces limit) v) ≡ directory limit s v
+  told-directory (refused n p) = ap (λ (x : List ℕ). record { number = n; place = cond (eqb n 12) (s + p) 0; count = 0; places = x }) (cleared-zeros limit)
+  told-directory (accepted ps) = ap (λ (x : List ℕ). record { number = 0; place = 0; count = length ps; places = x }) (told-padded limit s ps)

@@ -9,28 +9,28 @@ use lib.ListN.{length, take, drop, getD, set, replicate, length-replicate, lengt
 use lib.Seq.{take-suc, drop-cons, set-at, getD-at, length-take-le, take-at, drop-append-seam}
 use Rattle.number.specs.Lists.{padded}
 use Rattle.walk.specs.Walk.{Entry}
-use Rattle.strict.specs.Strict.{limit, placesOf}
 use Rattle.checker.specs.Directory.{noPlaces, fill}
 
--- The places of a listing that has room are stored one after the other.
+-- What f says of a listing that has room is stored one after the other.
 
-filled : (ps d : List ℕ) (n : ℕ) (l : List Entry) → length ps ≡ n → length l ≤ length d → fill (ps ++ d) n l ≡ ps ++ (placesOf l ++ drop (length l) d)
+filled : (f : Entry → ℕ) (ps d : List ℕ) (n : ℕ) (l : List Entry) → length ps ≡ n → length l ≤ length d
+    → fill f (ps ++ d) n l ≡ ps ++ (map f l ++ drop (length l) d)
 unfolding fill
-filled ps d n [] e h = refl
-filled ps [] n (t ∷ l) e h = absurd (omega arith)
-filled ps (x ∷ d) n (t ∷ l) e h =
-    let s : set (ps ++ (x ∷ d)) n (t .place) ≡ (ps ++ (t .place ∷ [])) ++ d = set-at ps x d (t .place) n e ∙ sym (append-assoc ps (t .place ∷ []) d) in
-    let longer : length (ps ++ (t .place ∷ [])) ≡ n + 1 = simp length-append (omega arith) in
-    rw s (filled (ps ++ (t .place ∷ [])) d (n + 1) l longer (omega arith) ∙ append-assoc ps (t .place ∷ []) (placesOf l ++ drop (length l) d))
+filled f ps d n [] e h = refl
+filled f ps [] n (t ∷ l) e h = absurd (omega arith)
+filled f ps (x ∷ d) n (t ∷ l) e h =
+    let s : set (ps ++ (x ∷ d)) n (f t) ≡ (ps ++ (f t ∷ [])) ++ d = set-at ps x d (f t) n e ∙ sym (append-assoc ps (f t ∷ []) d) in
+    let longer : length (ps ++ (f t ∷ [])) ≡ n + 1 = simp length-append (omega arith) in
+    rw s (filled f (ps ++ (f t ∷ [])) d (n + 1) l longer (omega arith) ∙ append-assoc ps (f t ∷ []) (map f l ++ drop (length l) d))
+
+pub fill-over : (f : Entry → ℕ) (d : List ℕ) (l : List Entry) → length l ≤ length d → fill f d 0 l ≡ map f l ++ drop (length l) d
+fill-over f d l h = filled f [] d 0 l refl h
 
 -- One more is stored after those that are.
-pub fill-snoc : (d : List ℕ) (n : ℕ) (l : List Entry) (t : Entry) → fill d n (l ++ (t ∷ [])) ≡ set (fill d n l) (n + length l) (t .place)
+pub fill-snoc : (f : Entry → ℕ) (d : List ℕ) (n : ℕ) (l : List Entry) (t : Entry) → fill f d n (l ++ (t ∷ [])) ≡ set (fill f d n l) (n + length l) (f t)
 unfolding fill
-fill-snoc d n [] t = rw add-zero
-fill-snoc d n (x ∷ l) t = fill-snoc (set d n (x .place)) (n + 1) l t ∙ ap (λ (k : ℕ). set (fill (set d n (x .place)) (n + 1) l) k (t .place)) (omega arith)
-
-pub fill-over : (d : List ℕ) (l : List Entry) → length l ≤ length d → fill d 0 l ≡ placesOf l ++ drop (length l) d
-fill-over d l h = filled [] d 0 l refl h
+fill-snoc f d n [] t = rw add-zero
+fill-snoc f d n (x ∷ l) t = fill-snoc f (set d n (f x)) (n + 1) l t ∙ ap (λ (k : ℕ). set (fill f (set d n (f x)) (n + 1) l) k (f t)) (omega arith)
 
 -- The first places told from s.
 
@@ -57,13 +57,13 @@ zeros-left w zero = rw sub-zero
 zeros-left zero (suc n) = rw zero-sub
 zeros-left (suc w) (suc n) = let e : suc w - suc n ≡ w - n = omega arith in rw e (zeros-left w n)
 
-pub told-padded : (s : ℕ) (ps : List ℕ) → toldTo s (ps ++ drop (length ps) noPlaces) (length ps) ≡ padded limit 0 (map (λ p. s + p) ps)
+pub told-padded : (most s : ℕ) (ps : List ℕ) → toldTo s (ps ++ drop (length ps) (noPlaces most)) (length ps) ≡ padded most 0 (map (λ p. s + p) ps)
 unfolding noPlaces padded
-told-padded s ps =
-    let zeros : List ℕ = drop (length ps) (replicate limit 0) in
-    rw (take-at ps zeros (length ps) refl, drop-append-seam ps zeros, zeros-left limit (length ps), length-map)
+told-padded most s ps =
+    let zeros : List ℕ = drop (length ps) (replicate most 0) in
+    rw (take-at ps zeros (length ps) refl, drop-append-seam ps zeros, zeros-left most (length ps), length-map)
 
 -- An array of that width, cleared.
-pub cleared-zeros : replicate (length noPlaces) 0 ≡ noPlaces
+pub cleared-zeros : (most : ℕ) → replicate (length (noPlaces most)) 0 ≡ noPlaces most
 unfolding noPlaces
-cleared-zeros = ap (λ (n : ℕ). replicate {A = ℕ} n 0) (length-replicate {A = ℕ} limit 0)
+cleared-zeros most = ap (λ (n : ℕ). replicate {A = ℕ} n 0) (length-replicate {A = ℕ} most 0)

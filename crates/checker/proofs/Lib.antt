@@ -1,5 +1,6 @@
 pub mod Checking
 pub mod Names
+pub mod Marks
 pub mod Directories
 pub mod Passes
 pub mod Answers

@@ -1,16 +1,17 @@
 -- Names told apart: the components at a run of places are looked at one by one, their digests first.
-use Prim.Native.Nat.{ℕ, zero, suc, _+_, _-_, _≤_, _<_}
+use Prim.Native.Nat.{ℕ, zero, suc, _+_, _-_, _*_, _/_, _%_, _≤_, _<_}
+use native.Mathlib.Nat.{sub-zero, mod-eq-of-lt, div-eq-of-lt, add-mul-div-right, add-mul-mod-self-right}
 use native.Mathlib.Numerals.{add-one}
 use native.Mathlib.Omega.{arith}
-use native.Mathlib.Decide.{decLt}
 use mathlib.Core.Path.{_≡_, refl, sym, ap, _∙_}
-use mathlib.Core.List.{List, [], _∷_, List·Memᴰ, List·Memᴰ·head, List·Memᴰ·tail}
-use mathlib.Core.Bool.{Bool, true, false, _||_, true≢false}
+use mathlib.Core.List.{List, [], _∷_, _++_, map, List·Memᴰ, List·Memᴰ·head, List·Memᴰ·tail}
+use mathlib.Core.Bool.{Bool, true, false, not, _&&_, _||_, true≢false}
 use mathlib.Core.Option.{Option, some, none}
-use lib.ListN.{length, take, drop, getD, set, length-set, drop-of-length-le}
+use lib.ListN.{length, take, drop, getD, length-append, length-map}
 use lib.Dec.{eqb}
 use borrow.Author.Tests.{eq-eqb, ne-eqb}
-use lib.Seq.{getD-set-same, getD-set-other, drop-cons}
+use lib.Seq.{drop-cons}
+use Rattle.number.specs.Number.{le}
 use Rattle.number.specs.Bytes.{eqBytes}
 use Rattle.number.proofs.SameBytes.{eq-true}
 use Rattle.component.specs.Component.{Component, judge, nameOf, bearsName}
@@ -18,8 +19,8 @@ use Rattle.number.specs.Lists.{any, noTwo}
 use Rattle.walk.specs.Walk.{Entry, plainListing}
 use Rattle.lookup.specs.Lookup.{bears}
 use Rattle.walk.proofs.Members.{given}
-use Rattle.strict.specs.Strict.{limit, toldApart, placesOf}
-use Rattle.checker.specs.Directory.{nameAt, stirred, digestOn, digestOf, NameDigests, named, apartAt}
+use Rattle.strict.specs.Strict.{toldApart, placesOf}
+use Rattle.checker.specs.Directory.{nameAt, stirred, digestOn, digestOf, entryDigest, NameDigests, named, apartAt}
 
 -- A window of a list, from k up to n.
 
@@ -83,6 +84,14 @@ any-less f g ps ds n l m h (suc d) k e q = go (g (getD ds k 0)) refl (any-less f
 
 -- Are their names apart?
 
+noTwo-tail : (t : ℕ → ℕ → Bool) (x : ℕ) (l : List ℕ) → noTwo t l ≡ false → noTwo t (x ∷ l) ≡ false
+unfolding noTwo
+noTwo-tail t x l e = rw e (go (not (any (t x) l)))
+  where
+    go : (b : Bool) → (b && false) ≡ false
+    go true = refl
+    go false = refl
+
 pub apart-not : (r ps : List ℕ) (i n : ℕ) → i < n → n ≤ length ps
     → any (named r (nameAt r (getD ps i 0))) (take (n - (i + 1)) (drop (i + 1) ps)) ≡ true → apartAt r (take (n - i) (drop i ps)) ≡ false
 unfolding noTwo
@@ -97,6 +106,13 @@ apart-on r ps i n h l y = rw (window-cons ps i n h l, y)
 pub apart-end : (r ps : List ℕ) (i n : ℕ) → n ≤ i → apartAt r (take (n - i) (drop i ps)) ≡ true
 unfolding noTwo
 apart-end r ps i n h = rw (window-end ps i n h)
+
+-- Where two from i on have the same name, two of all have.
+pub apart-before : (r ps : List ℕ) (n : ℕ) → n ≤ length ps → (i : ℕ) → i ≤ n → apartAt r (take (n - i) (drop i ps)) ≡ false → apartAt r (take n ps) ≡ false
+apart-before r ps n l zero h e = rw sub-zero at e
+apart-before r ps n l (suc i) h e =
+    let two = noTwo-tail (λ p. named r (nameAt r p)) (getD ps i 0) _ e in
+    apart-before r ps n l i (omega arith) (rw (window-cons ps i n h l, add-one i) two)
 
 -- The places tell the names apart as the listing does.
 
@@ -119,33 +135,57 @@ same-apart r (e ∷ l) j =
 pub apart-told : (r : List ℕ) (a : ℕ) → apartAt r (placesOf (plainListing r a)) ≡ toldApart (plainListing r a)
 apart-told r a = same-apart r (plainListing r a) (λ e m. given false r a e m .judged)
 
--- The digest, byte by byte.
+-- The digest, word by word: m bytes are left from i on.
 
-pub digest-on : (s : List ℕ) (i h : ℕ) → i < length s → digestOn h (drop i s) ≡ digestOn (stirred h (getD s i 0)) (drop (i + 1) s)
+pub digest-on : (s : List ℕ) (m i h : ℕ) → 8 ≤ m → digestOn (m / 8) h s i ≡ digestOn ((m - 8) / 8) (stirred h (le 8 s i)) s (i + 8)
 unfolding digestOn
-digest-on s i h b = rw (drop-cons s i 0 b, add-one i)
+digest-on s m i h l = let e : m / 8 ≡ suc ((m - 8) / 8) = omega arith in rw e
 
-pub digest-end : (s : List ℕ) (i h : ℕ) → length s ≤ i → digestOn h (drop i s) ≡ h
+pub digest-end : (s : List ℕ) (m i h : ℕ) → m < 8 → digestOn (m / 8) h s i ≡ stirred h (le 8 s i)
 unfolding digestOn
-digest-end s i h b = rw (drop-of-length-le s b)
+digest-end s m i h l = let e : m / 8 ≡ 0 = omega arith in rw e
 
--- The digests of the names, stored one after the other.
+-- Two words at a step.
 
-pub digests-none : (r places l : List ℕ) → length l ≡ limit → NameDigests r places 0 l
-digests-none r places l e = record { few = omega arith; stored = omega arith; wide = e; each = λ k h. absurd (omega arith) }
+pub digest-two : (s : List ℕ) (m i h : ℕ) → 16 ≤ m
+    → digestOn (m / 8) h s i ≡ digestOn ((m - 16) / 8) (stirred (stirred h (le 8 s i)) (le 8 s (i + 8))) s (i + 16)
+digest-two s m i h l =
+    let e : m - 8 - 8 ≡ m - 16 = omega arith in
+    let f : i + 8 + 8 ≡ i + 16 = omega arith in
+    digest-on s m i h (omega arith) ∙ digest-on s (m - 8) (i + 8) (stirred h (le 8 s i)) (omega arith) ∙ rw (e, f)
 
-pub digests-on : (r places l : List ℕ) (i d : ℕ) → i < limit → i < length places → d ≡ digestOf (nameAt r (getD places i 0)) → NameDigests r places i l
-    → NameDigests r places (i + 1) (set l i d)
-digests-on r places l i d h m e n = record { few = omega arith; stored = omega arith; wide = simp length-set (n .wide); each = each }
-  where
-    each : (k : ℕ) → k < i + 1 → getD (set l i d) k 0 ≡ digestOf (nameAt r (getD places k 0))
-    each k b = go (decLt k i)
-      where
-        go : Dec (k < i) → getD (set l i d) k 0 ≡ digestOf (nameAt r (getD places k 0))
-        go (yes c) = getD-set-other l i k d 0 (λ z. omega arith) ∙ n .each k c
-        go (no c) =
-            let z : k ≡ i = omega arith in
-            rw z (getD-set-same l i d 0 (omega (arith, n .wide)) ∙ e)
+-- The remainder may be left until after the second word.
+pub stirred-twice : (h a b c d : ℕ)
+    → (h * 923521 + (a * 31 + b) * 961 + c * 31 + d) % 4294967296 ≡ ((h * 961 + a * 31 + b) % 4294967296 * 961 + c * 31 + d) % 4294967296
+stirred-twice h a b c d =
+    let x = h * 961 + a * 31 + b in
+    let y = x % 4294967296 * 961 + c * 31 + d in
+    let e : h * 923521 + (a * 31 + b) * 961 + c * 31 + d ≡ y + x / 4294967296 * 961 * 4294967296 = omega arith in
+    ap (λ (n : ℕ). n % 4294967296) e ∙ add-mul-mod-self-right y (x / 4294967296 * 961) 4294967296
+
+-- A word as its two halves.
+pub stirred-halves : (h a b : ℕ) → a < 4294967296 → stirred h (a + b * 4294967296) ≡ (h * 961 + a * 31 + b) % 4294967296
+stirred-halves h a b l =
+    let low : (a + b * 4294967296) % 4294967296 ≡ a = add-mul-mod-self-right a b 4294967296 ∙ mod-eq-of-lt l in
+    let high : (a + b * 4294967296) / 4294967296 ≡ b = add-mul-div-right a b (omega arith) ∙ rw (div-eq-of-lt l) (omega arith) in
+    rw (low, high)
+
+-- The digests of a listing's names are those of the names at its places.
+digests-at : (r x y : List ℕ) (l : List Entry) → Judged r l → (k : ℕ) → k < length l
+    → getD (map entryDigest l ++ x) k 0 ≡ digestOf (nameAt r (getD (placesOf l ++ y) k 0))
+digests-at r x y [] j k h = absurd (omega arith)
+digests-at r x y (e ∷ l) j zero h = rw (j e (List·Memᴰ·head refl))
+digests-at r x y (e ∷ l) j (suc k) h = digests-at r x y l (λ t m. j t (List·Memᴰ·tail m)) k (omega arith)
+
+pub digests-listed : (r : List ℕ) (a n : ℕ) {d e : List ℕ} (x y : List ℕ) → n ≡ length (plainListing r a)
+    → d ≡ placesOf (plainListing r a) ++ y → e ≡ map entryDigest (plainListing r a) ++ x → NameDigests r d n e
+digests-listed r a n x y q p s =
+    let l = plainListing r a in
+    rw (q, p, s) (record {
+      stored = simp (length-append, length-map) (omega arith);
+      taken = simp (length-append, length-map) (omega arith);
+      each = digests-at r x y l (λ t m. given false r a t m .judged);
+    })
 
 -- Equal names have equal digests: where the digests differ, the names do.
 pub named-not : (r name : List ℕ) (p : ℕ) → (digestOf (nameAt r p) ≡ digestOf name → ⊥) → named r name p ≡ false
@@ -164,5 +204,5 @@ named-not r name p h = go (judge (drop p r)) h
 pub none-shared : (r places l name : List ℕ) (k n asked : ℕ) → k ≤ n → NameDigests r places n l → asked ≡ digestOf name
     → any (λ d. eqb d asked) (take (n - k) (drop k l)) ≡ false → any (named r name) (take (n - k) (drop k places)) ≡ false
 none-shared r places l name k n asked h d e =
-    any-less (named r name) (λ x. eqb x asked) places l n (d .stored) (omega (arith, d .wide, d .few))
+    any-less (named r name) (λ x. eqb x asked) places l n (d .stored) (d .taken)
     (λ j b q. named-not r name (getD places j 0) (λ z. true≢false (sym (eq-eqb (getD l j 0) asked (d .each j b ∙ z ∙ sym e)) ∙ q))) (n - k) k (omega arith)

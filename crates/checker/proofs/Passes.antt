@@ -6,37 +6,51 @@ use mathlib.Core.Path.{_≡_, refl, sym, ap, _∙_}
 use mathlib.Core.List.{List, [], _∷_, _++_}
 use mathlib.Core.Option.{some}
 use lib.ListN.{length, drop, set, length-append, length-set}
-use Rattle.component.specs.Component.{Component, span, judge, judged, headerOf}
+use Rattle.number.specs.Bytes.{partOf}
+use Rattle.component.specs.Component.{Component, span, judge, judged, headerOf, nameOf}
 use Rattle.component.specs.declared.Header.{Header}
 use Rattle.component.specs.declared.Judged.the-variants.{WellFormed, IllFormed}
-use Rattle.component.proofs.Judging.{judged-some, judged-none}
+use Rattle.component.proofs.Judging.{judged-some, judged-none, part-name}
 use Rattle.walk.specs.Walk.{Entry, nextMagic, onward, plainListing}
 use Rattle.walk.proofs.Stepping.{header-fits}
 use Rattle.strict.specs.Strict.{strays, refused, verdict}
-use Rattle.checker.specs.Directory.{fill}
+use Rattle.checker.specs.Directory.{digestOf, entryPlace, entryDigest, fill}
 use Rattle.checker.proofs.Checking.{Checked, checked-start, checked-ill, checked-buried, checked-on, checked-later, checked-end}
 use Rattle.checker.proofs.Directories.{fill-snoc}
 
--- Before p all is taken: n components, and their places are stored in d, which held d₀.
-pub record Passing (r : List ℕ) (a : ℕ) (d₀ d : List ℕ) (n p : ℕ) : Type 0 where
+-- d, which held d₀, holds what f says of the entries.
+
+abbrev Stored : (Entry → ℕ) → List ℕ → List ℕ → List Entry → Type 0
+Stored f d₀ d l = (d ≡ fill f d₀ 0 l) × (length d ≡ length d₀)
+
+store-next : (f : Entry → ℕ) (d₀ d d′ : List ℕ) (l : List Entry) (t : Entry) (n v : ℕ) → Stored f d₀ d l → n ≡ length l → v ≡ f t → d′ ≡ set d n v
+    → Stored f d₀ d′ (l ++ (t ∷ []))
+store-next f d₀ d d′ l t n v s c q e = (
+  e ∙ rw (s .0, c, q) (ap (λ (x : ℕ). set (fill f d₀ 0 l) x (f t)) (sym (zero-add (length l)))) ∙ sym (fill-snoc f d₀ 0 l t),
+  ap length e ∙ length-set d n v ∙ s .1,
+)
+
+-- Before p all is taken: n components. Their places are stored in d, which held d₀, and the digests of their names in e, which held e₀.
+pub record Passing (r : List ℕ) (a : ℕ) (d₀ d e₀ e : List ℕ) (n p : ℕ) : Type 0 where
   pub done : List Entry
   pub checked : Checked r a done p
   pub count : n ≡ length done
-  pub stored : d ≡ fill d₀ 0 done
-  pub long : length d ≡ length d₀
+  pub stored : Stored entryPlace d₀ d done
+  pub digested : Stored entryDigest e₀ e done
 
-pub pass-start : (r : List ℕ) (a : ℕ) (d : List ℕ) (p : ℕ) → p ≡ nextMagic r a 0 (length r) → Passing r a d d 0 p
+pub pass-start : (r : List ℕ) (a : ℕ) (d e : List ℕ) (p : ℕ) → p ≡ nextMagic r a 0 (length r) → Passing r a d d e e 0 p
 unfolding fill
-pass-start r a d p e = record { done = []; checked = checked-start r a p e; count = refl; stored = refl; long = refl }
+pass-start r a d e p q = record { done = []; checked = checked-start r a p q; count = refl; stored = (refl, refl); digested = (refl, refl) }
 
-module _ {r : List ℕ} {a : ℕ} {d₀ d : List ℕ} {n p : ℕ} (inv : Passing r a d₀ d n p) where
+module _ {r : List ℕ} {a : ℕ} {d₀ d e₀ e : List ℕ} {n p : ℕ} (inv : Passing r a d₀ d e₀ e n p) where
   pub pass-few : n ≤ p
   pass-few = omega (arith, inv .count, inv .checked .counted)
 
-  pub pass-end : length r ≤ p → (strays r a ≡ []) × (n ≡ length (plainListing r a)) × (d ≡ fill d₀ 0 (plainListing r a))
+  pub pass-end : length r ≤ p → (strays r a ≡ []) × (n ≡ length (plainListing r a))
+      × (d ≡ fill entryPlace d₀ 0 (plainListing r a)) × (e ≡ fill entryDigest e₀ 0 (plainListing r a))
   pass-end h =
-      let e = checked-end r a (inv .done) p (inv .checked) h in
-      (e .0, inv .count ∙ ap length (sym (e .1)), inv .stored ∙ ap (fill d₀ 0) (sym (e .1)))
+      let q = checked-end r a (inv .done) p (inv .checked) h in
+      rw (q .1) (q .0, inv .count, inv .stored .0, inv .digested .0)
 
   module _ (inside : p < length r) where
     pub pass-ill : judged (judge (drop p r)) ≡ IllFormed → (most : ℕ) → verdict most r a ≡ refused 12 p
@@ -51,20 +65,24 @@ module _ {r : List ℕ} {a : ℕ} {d₀ d : List ℕ} {n p : ℕ} (inv : Passing
       pass-buried q f l = let (c, j, e) = judged-some (judge (drop p r)) h said in
           (checked-buried r a (inv .done) p (inv .checked) inside c j (p + (h .offset + h .len)) (ends c e) q f l, omega (arith, l, header-fits r p h said .1))
 
-      pub pass-on : (q m p′ : ℕ) (d′ : List ℕ) → q ≡ nextMagic r a (p + a) (p + (h .offset + h .len)) → p + (h .offset + h .len) ≤ q
-          → m ≡ onward r a (p + (h .offset + h .len)) → p′ ≡ nextMagic r a m (length r) → d′ ≡ set d n p → Passing r a d₀ d′ (n + 1) p′
-      pass-on q m p′ d′ f l g k s = let (c, j, e) = judged-some (judge (drop p r)) h said in go c j e
+      pub pass-on : (q m p′ : ℕ) (d′ e′ : List ℕ) → q ≡ nextMagic r a (p + a) (p + (h .offset + h .len)) → p + (h .offset + h .len) ≤ q
+          → m ≡ onward r a (p + (h .offset + h .len)) → p′ ≡ nextMagic r a m (length r)
+          → d′ ≡ set d n p → e′ ≡ set e n (digestOf (partOf (drop p r) 24 (h .named))) → Passing r a d₀ d′ e₀ e′ (n + 1) p′
+      pass-on q m p′ d′ e′ f l g k s z = let (c, j, y) = judged-some (judge (drop p r)) h said in go c j y
         where
-          go : (c : Component) → judge (drop p r) ≡ some c → headerOf c ≡ h → Passing r a d₀ d′ (n + 1) p′
-          go c j e = record {
-            done = inv .done ++ (record { place = p; component = c } ∷ []);
-            checked = checked-on r a (inv .done) p (inv .checked) inside c j (p + (h .offset + h .len)) (ends c e) (omega (arith, f, l)) p′ (k ∙ ap (λ (x : ℕ). nextMagic r a x (length r)) g);
-            count = simp length-append (omega (arith, inv .count));
-            stored = s ∙ ap (λ (x : List ℕ). set x n p) (inv .stored)
-                ∙ ap (λ (x : ℕ). set (fill d₀ 0 (inv .done)) x p) (inv .count ∙ sym (zero-add (length (inv .done))))
-                ∙ sym (fill-snoc d₀ 0 (inv .done) (record { place = p; component = c }));
-            long = ap length s ∙ length-set d n p ∙ inv .long;
-          }
+          go : (c : Component) → judge (drop p r) ≡ some c → headerOf c ≡ h → Passing r a d₀ d′ e₀ e′ (n + 1) p′
+          go c j y =
+              let t : Entry = record { place = p; component = c } in
+              let end : ℕ = p + (h .offset + h .len) in
+              let next = k ∙ ap (λ (x : ℕ). nextMagic r a x (length r)) g in
+              let name = part-name (drop p r) h said ∙ ap nameOf j in
+              record {
+                done = inv .done ++ (t ∷ []);
+                checked = checked-on r a (inv .done) p (inv .checked) inside c j end (ends c y) (omega (arith, f, l)) p′ next;
+                count = simp length-append (omega (arith, inv .count));
+                stored = store-next entryPlace d₀ d d′ (inv .done) t n p (inv .stored) (inv .count) refl s;
+                digested = store-next entryDigest e₀ e e′ (inv .done) t n _ (inv .digested) (inv .count) (ap digestOf name) z;
+              }
 
       -- The pass goes on behind p.
       pub pass-later : (m p′ : ℕ) → m ≡ onward r a (p + (h .offset + h .len)) → p′ ≡ nextMagic r a m (length r) → p < p′

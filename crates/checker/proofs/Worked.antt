@@ -14,18 +14,18 @@ use Rattle.walk.specs.Walk.{placesBelow, places, carries, plain, orElse, first,
 use Rattle.lookup.specs.Lookup.{bears}
 use Rattle.terms.specs.Terms.{bytesOf}
 use Rattle.terms.specs.declared.Region.{Region}
-use Rattle.strict.specs.Strict.{takes, stray, strays, refused, accepted, decide, verdict}
+use Rattle.strict.specs.Strict.{limit, takes, stray, strays, refused, accepted, decide, verdict}
 use Rattle.checker.specs.Directory.{noPlaces, directory, verdictIn, placesIn, named}
 
-twelve : directory 64 (refused 12 192) ≡ record { number = 12; place = 256; count = 0; places = replicate 256 0 }
+twelve : directory limit 64 (refused 12 192) ≡ record { number = 12; place = 256; count = 0; places = replicate 1024 0 }
 unfolding noPlaces
 twelve = refl
 
-thirteen : directory 64 (refused 13 192) ≡ record { number = 13; place = 0; count = 0; places = replicate 256 0 }
+thirteen : directory limit 64 (refused 13 192) ≡ record { number = 13; place = 0; count = 0; places = replicate 1024 0 }
 unfolding noPlaces
 thirteen = refl
 
-two : directory 64 (accepted (0 ∷ 192 ∷ [])) ≡ record { number = 0; place = 0; count = 2; places = 64 ∷ 256 ∷ replicate 254 0 }
+two : directory limit 64 (accepted (0 ∷ 192 ∷ [])) ≡ record { number = 0; place = 0; count = 2; places = 64 ∷ 256 ∷ replicate 1022 0 }
 unfolding padded
 two = refl
 

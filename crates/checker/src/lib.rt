@@ -4,17 +4,17 @@ use terms::Region;
 ghost use mathlib.Core.Path.{_≡_};
 ghost use mathlib.Core.List.{_++_, map};
 ghost use mathlib.Core.Bool.{true};
-ghost use Prim.Native.Nat.{ℕ, _+_, _-_, _≤_, _<_};
+ghost use Prim.Native.Nat.{ℕ, _+_, _-_, _*_, _≤_, _<_};
 ghost use lib.ListN.{length, take, drop, getD, set, replicate};
 ghost use lib.Dec.{eqb};
 ghost use Rattle.number.specs.Lists.{any};
 ghost use Rattle.terms.specs.Terms.{bytesOf};
 ghost use Rattle.strict.specs.Strict.{limit, verdict};
 ghost use Rattle.checker.specs.Directory.{refusal, directory, surveyed, verdictIn, placesIn, Passed};
-ghost use Rattle.checker.specs.Directory.{nameAt, stirred, digestOf, NameDigests, named, apartAt};
+ghost use Rattle.checker.specs.Directory.{nameAt, stirred, digestOf, NameDigests, named, apartAt, repeatedAfter, Noted, AllNoted};
 
 // How many components a region may have: the definition `limit`.
-pub const MOST: usize = 256;
+pub const MOST: usize = 1024;
 
 // The components' places and zeros after them, and their count; or a refusal's number and place, and zeros elsewhere.
 pub struct Directory {
@@ -34,7 +34,7 @@ pub struct Surveyed {
 }
 
 // What one pass over a region finds: the lowest place with the magic that the plain walk does not take; or else how many components there
-// are. The places of as many as the array has room for are stored as it goes.
+// are. The places of as many as the arrays have room for, and the digests of their names, are stored as it goes.
 struct Pass {
     astray: bool,
     place: usize,
@@ -50,6 +50,55 @@ fn store(d: &mut [usize], n: usize, v: usize)
     }
 }
 
+// A digest taken one word of eight bytes further.
+fn stir(h: u32, w: u64) -> u32
+    ensures { λ r. ⌜ r ≡ stirred h w ⌝ }
+{
+    ((h as u64 * 961 + w % 4294967296 * 31 + w / 4294967296) % 4294967296) as u32
+}
+
+// Two words further, each as its two halves. One multiplication of h, where `stir` twice has two one after the other.
+fn stir_two(h: u32, a: u32, b: u32, c: u32, d: u32) -> u32
+    ensures { λ r. ⌜ r ≡ stirred (stirred h (a + b * 4294967296)) (c + d * 4294967296) ⌝ }
+{
+    ((h as u64 * 923521 + (a as u64 * 31 + b as u64) * 961 + c as u64 * 31 + d as u64)
+        % 4294967296) as u32
+}
+
+// The digest of a name. Names with different digests differ, so that most names are told apart by one number, and their bytes are not read again.
+// The halves of a word are read one by one, so that the compiler makes one load of each.
+fn digest(s: &[u8]) -> u32
+    ensures { λ h. ⌜ h ≡ digestOf (now (s .entry)) ⌝ }
+{
+    let mut h = 0u32;
+    let mut i = 0;
+    while i + 16 <= s.len() {
+        let w = &s[i..i + 16];
+        h = stir_two(
+            h,
+            number::le32(w, 0),
+            number::le32(w, 4),
+            number::le32(w, 8),
+            number::le32(w, 12),
+        );
+        i += 16;
+    }
+    if i + 8 <= s.len() {
+        h = stir(h, number::le64(&s[i..i + 8], 0));
+        i += 8;
+    }
+    stir(h, number::le64(s, i))
+}
+
+// Stores the digest of a name at n, where d has such a place.
+fn store_digest(d: &mut [u32], n: usize, name: &[u8])
+    ensures { λ _. ⌜ now (d .exit) ≡ set (now (d .entry)) n (digestOf (now (name .entry))) ⌝ }
+{
+    if n < d.len() {
+        d[n] = digest(name);
+    }
+}
+
 fn astray(place: usize) -> Pass
     ensures { λ s. ⌜ (s .astray ≡ true) × (s .place ≡ place) × (s .count ≡ 0) ⌝ }
 {
@@ -60,9 +109,9 @@ fn astray(place: usize) -> Pass
     }
 }
 
-// One pass over the region's bytes. Each place is compared with the magic once.
-fn pass_over(r: &[u8], align: usize, places: &mut [usize]) -> Pass
-    ensures { λ s. ⌜ Passed (now (r .entry)) align (now (places .entry)) (now (places .exit)) s ⌝ }
+// One pass over the region's bytes. Each place is compared with the magic once, and each header judged once.
+fn pass_over(r: &[u8], align: usize, places: &mut [usize], digests: &mut [u32]) -> Pass
+    ensures { λ s. ⌜ Passed (now (r .entry)) align (now (places .entry)) (now (places .exit)) (now (digests .entry)) (now (digests .exit)) s ⌝ }
 {
     let mut n = 0;
     let mut p = walk::next_magic(r, align, 0, r.len());
@@ -76,6 +125,7 @@ fn pass_over(r: &[u8], align: usize, places: &mut [usize]) -> Pass
                     return astray(q);
                 }
                 store(places, n, p);
+                store_digest(digests, n, number::part(number::rest(r, p), 24, h.named));
                 n += 1;
                 p = walk::next_magic(r, align, walk::onward(r, align, e), r.len());
             }
@@ -96,39 +146,6 @@ fn name_at(r: &[u8], p: usize) -> &[u8]
     ensures { λ n. ⌜ now n ≡ nameAt (now (r .entry)) p ⌝ }
 {
     component::name(number::rest(r, p))
-}
-
-// A digest taken one byte further.
-fn stir(h: u32, b: u8) -> u32
-    ensures { λ r. ⌜ r ≡ stirred h b ⌝ }
-{
-    ((h as u64 * 31 + b as u64) % 4294967296) as u32
-}
-
-// The digest of a name. Names with different digests differ, so that most names are told apart by one number, and their bytes are not read again.
-fn digest(s: &[u8]) -> u32
-    ensures { λ h. ⌜ h ≡ digestOf (now (s .entry)) ⌝ }
-{
-    let mut h = 0u32;
-    let mut i = 0;
-    while i < s.len() {
-        h = stir(h, s[i]);
-        i += 1;
-    }
-    h
-}
-
-// Stores the digests of the names of the components at the first n places.
-fn name_digests(r: &[u8], places: &[usize], n: usize, digests: &mut [u32])
-    requires { ⌜ (n ≤ length (now places)) × (n ≤ limit) × (length (now digests) ≡ limit) ⌝ }
-    ensures { λ _. ⌜ NameDigests (now (r .entry)) (now (places .entry)) n (now (digests .exit)) ⌝ }
-{
-    let mut i = 0;
-    while i < n {
-        let p = places[i];
-        digests[i] = digest(name_at(r, p));
-        i += 1;
-    }
 }
 
 // One of the digests from `from` up to `to` is `asked`. The loop goes on where one is found, so that the compiler can compare several at once.
@@ -201,21 +218,59 @@ fn repeated(
     any_named(r, places, digests, from, to, name_at(r, p), asked)
 }
 
-// No two of the components at the first n places have the same name.
-fn apart(r: &[u8], places: &[usize], n: usize) -> bool
-    requires { ⌜ (n ≤ length (now places)) × (n ≤ limit) ⌝ }
+// Notes a digest in the marks, and says whether the same may have been noted before. It has one of the 2,048 bytes and one of 254 marks.
+fn note(marks: &mut [u8], d: u32) -> bool
+    requires { ⌜ length (now marks) ≡ 2048 ⌝ }
+    ensures { λ b. ⌜ Noted (now (marks .entry)) (now (marks .exit)) d b ⌝ }
+{
+    let mixed = d as u64 * 2654435761 % 4294967296;
+    let at = (mixed / 2097152) as usize;
+    let mark = (1 + mixed / 8192 % 254) as u8;
+    let was = marks[at];
+    if was == mark {
+        return true;
+    }
+    if was == 0 {
+        marks[at] = mark;
+        return false;
+    }
+    marks[at] = 255;
+    was == 255
+}
+
+// One of the components at the places after the i-th, up to `to`, has the i-th one's name. Their digests have been noted in the marks, and this one is now.
+fn named_again(
+    r: &[u8],
+    places: &[usize],
+    digests: &[u32],
+    marks: &mut [u8],
+    i: usize,
+    to: usize,
+) -> bool
+    requires { ⌜ (i < to) × NameDigests (now r) (now places) to (now digests) × (length (now marks) ≡ 2048) × AllNoted (now marks) (now digests) (i + 1) to ⌝ }
+    ensures { λ b. ⌜ b ≡ repeatedAfter (now (r .entry)) (now (places .entry)) i to ⌝ }
+    ensures noted { λ _. ⌜ AllNoted (now (marks .exit)) (now (digests .entry)) i to ⌝ }
+{
+    let asked = digests[i];
+    if !note(marks, asked) {
+        return false;
+    }
+    repeated(r, places, digests, i + 1, to, places[i], asked)
+}
+
+// No two of the components at the first n places have the same name. The digests are those of their names. From the last one down, each is compared
+// with the later ones only where its digest may have been among theirs.
+fn apart(r: &[u8], places: &[usize], digests: &[u32], n: usize) -> bool
+    requires { ⌜ NameDigests (now r) (now places) n (now digests) ⌝ }
     ensures { λ b. ⌜ b ≡ apartAt (now (r .entry)) (take n (now (places .entry))) ⌝ }
 {
-    let mut digests = [0u32; MOST];
-    name_digests(r, places, n, &mut digests);
-    let mut i = 0;
-    while i < n {
-        let p = places[i];
-        let asked = digests[i];
-        if repeated(r, places, &digests, i + 1, n, p, asked) {
+    let mut marks = [0u8; 2048];
+    let mut i = n;
+    while 0 < i {
+        i -= 1;
+        if named_again(r, places, digests, &mut marks, i, n) {
             return false;
         }
-        i += 1;
     }
     true
 }
@@ -234,7 +289,7 @@ fn told(start: usize, d: &mut [usize], n: usize)
 
 // A refusal: its number and its place, and zeros elsewhere.
 pub fn refused(number: u32, place: usize) -> Directory
-    ensures { λ d. ⌜ d ≡ refusal number place ⌝ }
+    ensures { λ d. ⌜ d ≡ refusal limit number place ⌝ }
 {
     Directory {
         number,
@@ -277,7 +332,8 @@ pub fn survey(image: &[u8], region: Region, places: &mut [usize]) -> Surveyed
 {
     let most = number::least(places.len(), MOST);
     let r = terms::bytes(image, region);
-    let s = pass_over(r, region.align, places);
+    let mut digests = [0u32; MOST];
+    let s = pass_over(r, region.align, places, &mut digests);
     if s.astray {
         return refuse(places, 12, region.start + s.place);
     }
@@ -285,7 +341,7 @@ pub fn survey(image: &[u8], region: Region, places: &mut [usize]) -> Surveyed
     if most < n {
         return refuse(places, 13, 0);
     }
-    if !apart(r, places, n) {
+    if !apart(r, places, &digests, n) {
         return refuse(places, 11, 0);
     }
     Surveyed {
@@ -297,7 +353,7 @@ pub fn survey(image: &[u8], region: Region, places: &mut [usize]) -> Surveyed
 
 // The strict check of a region: its directory, or refusal 12, 13 or 11.
 pub fn check(image: &[u8], region: Region) -> Directory
-    ensures { λ d. ⌜ d ≡ directory (region .start) (verdict limit (bytesOf (now (image .entry)) region) (region .align)) ⌝ }
+    ensures { λ d. ⌜ d ≡ directory limit (region .start) (verdict limit (bytesOf (now (image .entry)) region) (region .align)) ⌝ }
     ensures kept { λ _. ⌜ now (image .exit) ≡ now (image .entry) ⌝ }
 {
     let mut places = [0usize; MOST];

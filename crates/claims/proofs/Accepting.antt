@@ -18,27 +18,32 @@ use Rattle.strict.specs.Strict.{limit, Verdict, refused, accepted, placesOf, ve
 use Rattle.checker.specs.Directory.{directory}
 use Rattle.strict.proofs.Verdicts.{accepted-exactly, no-other}
 use Rattle.strict.proofs.Accepting.{walks-agree}
-use Rattle.reading.specs.Reading.{strictCheck}
-use Rattle.claims.specs.Demand3.{AcceptedImage, Spoiled, Demand3}
+use Rattle.reading.specs.Reading.{strictCheck, strictCheckUpTo}
+use Rattle.claims.specs.Demand3.{AcceptedImage, AcceptedImageUpTo, Spoiled, Demand3}
 use Rattle.claims.proofs.Spoiling.{demand-3}
 
 -- The strict check gives number 0 exactly if the image has a region and every place with the magic in it is one the plain walk takes, there
--- are at most 256 components, and no two names are equal.
-pub strict-check-accepts : (i : List ℕ) → (strictCheck i .number ≡ 0) ↔ ((g : Region) × AcceptedImage i g)
-strict-check-accepts i = (λ z. go (master i) refl z, λ h. rw (h .1 .read, accepted-exactly (bytesOf i (h .0)) (h .0 .align) _ .1 (h .1 .acc, refl)))
+-- are at most as many components as are allowed, and no two names are equal.
+pub check-accepts : (most : ℕ) (i : List ℕ) → (strictCheckUpTo most i .number ≡ 0) ↔ ((g : Region) × AcceptedImageUpTo most i g)
+check-accepts most i = (λ z. go (master i) refl z, λ h. rw (h .1 .read, accepted-exactly (bytesOf i (h .0)) (h .0 .align) _ .1 (h .1 .acc, refl)))
   where
-    by : (g : Region) → master i ≡ Read g → (v : Verdict) → verdict limit (bytesOf i g) (g .align) ≡ v → directory (g .start) v .number ≡ 0 → (h : Region) × AcceptedImage i h
+    by : (g : Region) → master i ≡ Read g → (v : Verdict) → verdict most (bytesOf i g) (g .align) ≡ v → directory most (g .start) v .number ≡ 0
+        → (h : Region) × AcceptedImageUpTo most i h
     by g m (accepted ps) q z = (g, record { read = m; acc = accepted-exactly (bytesOf i g) (g .align) ps .0 q .0 })
-    by g m (refused n p) q z = absurd (no (no-other limit (bytesOf i g) (g .align) n p q))
+    by g m (refused n p) q z = absurd (no (no-other most (bytesOf i g) (g .align) n p q))
       where
         no : (n ≡ 12) ⊎ ((n ≡ 13) × (p ≡ 0)) ⊎ ((n ≡ 11) × (p ≡ 0)) → ⊥
         no (inl e) = omega arith
         no (inr (inl e)) = omega (arith, e .0)
         no (inr (inr e)) = omega (arith, e .0)
 
-    go : (m : Master) → master i ≡ m → strictCheck i .number ≡ 0 → (g : Region) × AcceptedImage i g
-    go (Read g) e z = by g e (verdict limit (bytesOf i g) (g .align)) refl (rw e at z)
+    go : (m : Master) → master i ≡ m → strictCheckUpTo most i .number ≡ 0 → (g : Region) × AcceptedImageUpTo most i g
+    go (Read g) e z = by g e (verdict most (bytesOf i g) (g .align)) refl (rw e at z)
     go (Refused r) e z = absurd (refused-number i r e (rw e at z))
+
+-- 1,024 are allowed.
+pub strict-check-accepts : (i : List ℕ) → (strictCheck i .number ≡ 0) ↔ ((g : Region) × AcceptedImageUpTo 1024 i g)
+strict-check-accepts i = check-accepts 1024 i
 
 -- Then its directory has the plain listing's places, told from the image's start, and zeros after them; its count is the listing's length.
 pub strict-check-directory : (i : List ℕ) (g : Region) → AcceptedImage i g

@@ -8,4 +8,5 @@ pub mod Plans
 pub mod WorkedPlans
 pub mod Refusing
 pub mod Parts
+pub mod Limits
 pub mod WorkedImages

@@ -3,20 +3,20 @@ use Prim.Native.Nat.{ℕ, _+_, _-_, _%_, _≤_, _<_}
 use native.Mathlib.Omega.{arith}
 use native.Mathlib.Decide.{decLt}
 use mathlib.Core.Path.{_≡_, refl, sym, ap, subst, _∙_}
-use mathlib.Core.Bool.{Bool, true, false, cond, not, _&&_, true≢false}
+use mathlib.Core.Bool.{Bool, true, false, cond, true≢false}
 use mathlib.Core.Option.{Option, some, none}
 use mathlib.Core.List.{List, [], _∷_, _++_, List·Memᴰ, List·Memᴰ·head}
 use mathlib.Core.Logic.{_⊎_, inl, inr, _↔_}
 use lib.ListN.{length}
 use lib.Dec.{eqb}
-use borrow.Author.Tests.{not-true, eqb-false, eq-eqb, ne-eqb}
+use borrow.Author.Tests.{eq-eqb, ne-eqb}
 use Rattle.number.specs.Lists.{keep}
-use Rattle.number.proofs.Tested.{both-true, keep-empty, mem-keep}
+use Rattle.number.proofs.Tested.{keep-empty, mem-keep}
 use Rattle.terms.specs.Terms.{refusedBy}
 use Rattle.terms.specs.Table.{Row, row, Given}
 use Rattle.terms.specs.declared.Region.{Region}
 use Rattle.terms.specs.declared.Refusal.{Refusal}
-use Rattle.terms.proofs.Tables.{Fails, above, other, neither, last, or, one-fails, said, given-exactly, given-here, given-later}
+use Rattle.terms.proofs.Tables.{Fails, above, other, neither, last, or, one-fails, said, given-exactly, given-here, given-later, not-given}
 use Rattle.master.specs.Master.{master}
 use Rattle.master.specs.Table.{align, region, masterRows}
 use Rattle.master.specs.declared.Master.{Master}
@@ -182,7 +182,7 @@ module _ (i : List ℕ) where
   strict-exactly = on-image i (checkRows limit s a) (strictCheck i .number) (λ x e. rw e)
       (λ e. rw e (go v (check-exactly limit s a (align-some e) (verdictNumber v) .0 refl)))
     where
-      go : (w : Verdict) → Given (checkRows limit s a) (verdictNumber w) → Given (checkRows limit s a) (directory (g .start) w .number)
+      go : (w : Verdict) → Given (checkRows limit s a) (verdictNumber w) → Given (checkRows limit s a) (directory limit (g .start) w .number)
       go (refused n p) h = h
       go (accepted ps) h = h
 
@@ -211,16 +211,6 @@ module _ (i : List ℕ) where
         (λ e. rw (e, edit-number (toRemove limit s a name)) (remove-given s a (align-some e) (small e) name))
 
 -- What a refusal says: a number that is not 0, and its place, which is the lowest such place for 12 and 0 for every other one.
-
--- No row has the number n, and it is not 0.
-abbrev absent : ℕ → List Row → Bool
-absent n [] = not (eqb n 0)
-absent n (x ∷ xs) = not (eqb n (x .number)) && absent n xs
-
-not-given : (n : ℕ) (xs : List Row) → absent n xs ≡ true → Given xs n → ⊥
-not-given n [] h e = eqb-false n 0 (not-true _ h) e
-not-given n (x ∷ xs) h (inl e) = eqb-false n (x .number) (not-true _ (both-true _ (absent n xs) h .0)) (e .1)
-not-given n (x ∷ xs) h (inr e) = not-given n xs (both-true (not (eqb n (x .number))) (absent n xs) h .1) (e .1)
 
 -- The strict check's own numbers.
 check-number : (n p : ℕ) → (n ≡ 12) ⊎ ((n ≡ 13) × (p ≡ 0)) ⊎ ((n ≡ 11) × (p ≡ 0)) → n ≡ 0 → ⊥
@@ -309,7 +299,7 @@ module _ (i : List ℕ) where
   pub strict-place : PlaceFor i (strictCheck i .number) (strictCheck i .place)
   strict-place = go (master i) refl
     where
-      by : Is i → (w : Verdict) → v i ≡ w → PlaceFor i (directory (g i .start) w .number) (directory (g i .start) w .place)
+      by : Is i → (w : Verdict) → v i ≡ w → PlaceFor i (directory limit (g i .start) w .number) (directory limit (g i .start) w .place)
       by e (refused n p) q = checked e n p q .place
       by e (accepted ps) q = ((λ z. absurd (omega arith)), λ z. refl)
 

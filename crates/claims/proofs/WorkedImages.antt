@@ -28,9 +28,9 @@ use Rattle.region.specs.Region.{stepFits, stepBy, fromPlace}
 use Rattle.region.specs.declared.Step.the-variants.{NoneLeft}
 use Rattle.region.specs.declared.Step.the-variants.{Refused as StepRefused}
 use Rattle.region.specs.declared.Found.the-variants.{Refused as FoundRefused}
-use Rattle.reading.specs.Reading.{stepOf, strictCheck}
+use Rattle.reading.specs.Reading.{stepOf, strictCheck, strictCheckUpTo}
 use Rattle.finding.specs.Finding.{findOf, contentFoundBy, nameAt, contentAt}
-use Rattle.editing.specs.Editing.{added, replaced, removed}
+use Rattle.editing.specs.Editing.{added, replaced, removed, addedUpTo, replacedUpTo, removedUpTo}
 use Rattle.load.specs.Fits.{loadTests}
 use Rattle.stage.specs.Stage.{stageTests, stageAnswer, stageOf, stageIn}
 use Rattle.payload.specs.Payload.{payloadTests, planOf, refusedPayload, payloadAnswer, payloadOf, payloadIn}
@@ -81,11 +81,37 @@ abbrev unalignedUntaken : List ℕ
 unalignedUntaken = image (0xFF ∷ 0x4C ∷ 0x41 ∷ 0x52 ∷ 0x43 ∷ 0x48 ∷ 0x49 ∷ 0x56 ∷ 0x45 ∷ replicate 55 0xFF) 65
 
 -- 12 comes with the place 128, from the image's start; so do the edits. 8 comes before 12, 9 and 10; 11 comes with place 0.
-checked : (strictCheck untaken ≡ refusedDirectory 12 128) × (strictCheck alike ≡ refusedDirectory 11 0) × (strictCheck unalignedUntaken ≡ refusedDirectory 8 0)
+checked : (strictCheck untaken ≡ refusedDirectory 1024 12 128) × (strictCheck alike ≡ refusedDirectory 1024 11 0)
+    × (strictCheck unalignedUntaken ≡ refusedDirectory 1024 8 0)
     × (strays (bytesOf unalignedUntaken (record { start = 65; end = 192; align = 64 })) 64 ≡ 64 ∷ [])
-    × (strictCheck fine ≡ record { number = 0; place = 0; count = 2; places = padded 256 0 (64 ∷ 128 ∷ []) })
+    × (strictCheck fine ≡ record { number = 0; place = 0; count = 2; places = padded 1024 0 (64 ∷ 128 ∷ []) })
 unfolding opened
 checked = (refl, refl, refl, refl, refl)
+
+-- With one component allowed the check refuses by 13; with two and three it says the same, in as many places. So do edits: where b is to be added
+-- beside a, and where b is replaced and removed.
+
+abbrev half : List ℕ
+half = image (replicate 64 0xFF) 64
+
+limited : (strictCheckUpTo 1 fine ≡ refusedDirectory 1 13 0)
+    × (strictCheckUpTo 2 fine ≡ record { number = 0; place = 0; count = 2; places = 64 ∷ 128 ∷ [] })
+    × (strictCheckUpTo 3 fine ≡ record { number = 0; place = 0; count = 2; places = 64 ∷ 128 ∷ 0 ∷ [] })
+    × (strictCheckUpTo 256 fine .number ≡ 0)
+unfolding opened
+limited = (refl, refl, refl, refl)
+
+added-limited : (addedUpTo 1 half (0x62 ∷ []) 0x50 (7 ∷ []) .answer ≡ EditRefused (refusedBy 13))
+    × (addedUpTo 2 half (0x62 ∷ []) 0x50 (7 ∷ []) ≡ record { answer = Done 128; image = fine })
+    × (addedUpTo 256 half (0x62 ∷ []) 0x50 (7 ∷ []) .answer ≡ Done 128)
+unfolding opened
+added-limited = (refl, refl, refl)
+
+edited-limited : (replacedUpTo 1 fine (0x62 ∷ []) (7 ∷ []) .answer ≡ EditRefused (refusedBy 13))
+    × (removedUpTo 1 fine (0x62 ∷ []) .answer ≡ EditRefused (refusedBy 13))
+    × (replacedUpTo 256 fine (0x62 ∷ []) (7 ∷ []) .answer ≡ Done 128) × (removedUpTo 256 fine (0x62 ∷ []) .answer ≡ Done 128)
+unfolding opened
+edited-limited = (refl, refl, refl, refl)
 
 abbrev twelve : Edited
 twelve = EditRefused (record { number = 12; place = 128 })

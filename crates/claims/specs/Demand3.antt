@@ -12,7 +12,7 @@ use Rattle.walk.specs.declared.Taken.{Taken}
 use Rattle.lookup.specs.Lookup.{bears}
 use Rattle.master.specs.Master.{master}
 use Rattle.master.specs.declared.Master.the-variants.{Read}
-use Rattle.strict.specs.Strict.{Accepted}
+use Rattle.strict.specs.Strict.{limit, AcceptedUpTo}
 use Rattle.strict.specs.Slots.{hit}
 use Rattle.terms.specs.Terms.{bytesOf, refusedBy}
 use Rattle.terms.specs.declared.Region.{Region}
@@ -21,10 +21,13 @@ use Rattle.region.specs.declared.Found.the-variants.{At, Refused}
 use Rattle.reading.specs.Reading.{guardedStep}
 use Rattle.finding.specs.Finding.{findOf, guardedFind, contentFoundBy, nameAt, contentAt}
 
--- "Take any image that the strict check accepts": its region, and that the check accepts it.
-pub record AcceptedImage (i : List ℕ) (g : Region) : Type 0 where
+-- "Take any image that the strict check accepts": its region, and that the check accepts it, where at most that many components are allowed.
+pub record AcceptedImageUpTo (most : ℕ) (i : List ℕ) (g : Region) : Type 0 where
   pub read : master i ≡ Read g
-  pub acc : Accepted (bytesOf i g) (g .align)
+  pub acc : AcceptedUpTo most (bytesOf i g) (g .align)
+
+abbrev pub AcceptedImage : List ℕ → Region → Type 0
+AcceptedImage i g = AcceptedImageUpTo limit i g
 
 -- A component with its place told from the image's start.
 abbrev pub placed : Region → Entry → Entry

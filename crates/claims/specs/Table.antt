@@ -71,20 +71,20 @@ module _ (i : List ℕ) where
   abbrev pub guardedRows : List ℕ → List Row
   guardedRows name = masterRows i ++ (row 10 (Nobody (listedBy true) name) ∷ row 11 (TwoBearers name (listedBy true)) ∷ [])
 
-  -- The strict check: "1 to 8, 12, 13, 11".
+  -- The strict check: "1 to 8, 12, 13, 11", with 1,024 components allowed (request 6).
   abbrev pub strictRows : List Row
-  strictRows = masterRows i ++ checkRows 256 regionBytes (align i)
+  strictRows = masterRows i ++ checkRows 1024 regionBytes (align i)
 
-  -- Edits: "the same, then 14 and 15 (add) or 10, then 13 for an add at 256 components, 16, 17".
+  -- Edits: "the same, then 14 and 15 (add) or 10, then 13 for an add at 256 components, 16, 17", 1,024 by request 6.
 
   abbrev pub imageAddRows : List ℕ → ℕ → List ℕ → List Row
-  imageAddRows name kind content = masterRows i ++ (checkRows 256 regionBytes (align i) ++ addRows 256 regionBytes (align i) name kind content)
+  imageAddRows name kind content = masterRows i ++ (checkRows 1024 regionBytes (align i) ++ addRows 1024 regionBytes (align i) name kind content)
 
   abbrev pub imageReplaceRows : List ℕ → List ℕ → List Row
-  imageReplaceRows name content = masterRows i ++ (checkRows 256 regionBytes (align i) ++ replaceRows regionBytes (align i) name content)
+  imageReplaceRows name content = masterRows i ++ (checkRows 1024 regionBytes (align i) ++ replaceRows regionBytes (align i) name content)
 
   abbrev pub imageRemoveRows : List ℕ → List Row
-  imageRemoveRows name = masterRows i ++ (checkRows 256 regionBytes (align i) ++ removeRows regionBytes (align i) name)
+  imageRemoveRows name = masterRows i ++ (checkRows 1024 regionBytes (align i) ++ removeRows regionBytes (align i) name)
 
   -- "Each comes back with place 0 (12: the lowest such place)".
 

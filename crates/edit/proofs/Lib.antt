@@ -7,4 +7,5 @@ pub mod Decisions
 pub mod Outcomes
 pub mod Theorems
 pub mod Exactly
+pub mod Limits
 pub mod Cases

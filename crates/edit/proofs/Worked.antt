@@ -13,6 +13,7 @@ use Rattle.component.specs.Names.{nameTests, nameFits}
 use Rattle.component.specs.Component.{magic, startsWithMagic}
 use Rattle.walk.specs.Walk.{Entry, placesBelow, places, carries, buried, onward}
 use Rattle.lookup.specs.Lookup.{bears}
+use Rattle.strict.specs.Strict.{limit}
 use Rattle.edit.specs.Edit.{Run, holds, fieldSize, headerBytes, fieldBytes, spanBytes, buries, runs, lowest, filled, adding, renewing, clearing, write, done, carriedOut, made}
 use Rattle.edit.specs.Table.{decisionNumber}
 
@@ -95,6 +96,17 @@ add-order :
     ≡ 14 ∷ 15 ∷ 13 ∷ 16 ∷ 17 ∷ 0 ∷ []
 unfolding any all nameTests nameFits bears eqBytes buries buried carries places placesBelow magic startsWithMagic beBytes fieldSize headerBytes fieldBytes spanBytes onward runs lowest adding
 add-order = refl
+
+-- At 1,023 components an add goes on, here to 17; at 1,024 it is refused by 13. With document 01's limit, at 255 and at 256.
+add-full :
+    adds limit (97 ∷ []) [] (replicate 1023 there)
+    ∷ adds limit (97 ∷ []) [] (replicate 1024 there)
+    ∷ adds 256 (97 ∷ []) [] (replicate 255 there)
+    ∷ adds 256 (97 ∷ []) [] (replicate 256 there)
+    ∷ []
+    ≡ 17 ∷ 13 ∷ 17 ∷ 13 ∷ []
+unfolding any all nameTests nameFits bears eqBytes buries buried carries places placesBelow magic startsWithMagic beBytes fieldSize headerBytes fieldBytes spanBytes onward runs lowest adding
+add-full = refl
 
 abbrev replaces : List ℕ → ℕ
 replaces content = decisionNumber (renewing 16 ab content (some (record { entry = there; run = bytes 0 64 })))

@@ -5,7 +5,7 @@ use Rattle.terms.specs.declared.Region.{Region}
 use Rattle.master.specs.Master.{master}
 use Rattle.master.specs.declared.Master.{Master}
 use Rattle.master.specs.declared.Master.the-variants.{Read, Refused}
-use Rattle.editor.specs.Image.{Result, addIn, replaceIn, removeIn}
+use Rattle.editor.specs.Image.{Result, addIn, replaceIn, removeIn, addInUpTo, replaceInUpTo, removeInUpTo}
 use Rattle.editor.specs.declared.Edited.the-variants.{Refused as EditRefused}
 
 -- A refused edit changes no byte.
@@ -23,3 +23,14 @@ replaced i name content = editOn i (master i) (λ g. replaceIn i g name content)
 
 abbrev pub removed : List ℕ → List ℕ → Result
 removed i name = editOn i (master i) (λ g. removeIn i g name)
+
+-- The same where at most that many components are allowed.
+
+abbrev pub addedUpTo : ℕ → List ℕ → List ℕ → ℕ → List ℕ → Result
+addedUpTo most i name kind content = editOn i (master i) (λ g. addInUpTo most i g name kind content)
+
+abbrev pub replacedUpTo : ℕ → List ℕ → List ℕ → List ℕ → Result
+replacedUpTo most i name content = editOn i (master i) (λ g. replaceInUpTo most i g name content)
+
+abbrev pub removedUpTo : ℕ → List ℕ → List ℕ → Result
+removedUpTo most i name = editOn i (master i) (λ g. removeInUpTo most i g name)

@@ -26,13 +26,24 @@ answerOf s (done p) = Done (s + p)
 abbrev pub inImage : List ℕ → Region → Outcome → Result
 inImage i g o = record { answer = answerOf (g .start) (o .reply); image = splice i (g .start) (o .bytes) }
 
--- The three edits of the region g of an image i.
+-- The three edits of the region g of an image i, where at most that many components are allowed.
+
+abbrev pub addInUpTo : ℕ → List ℕ → Region → List ℕ → ℕ → List ℕ → Result
+addInUpTo most i g name kind content = inImage i g (add most (bytesOf i g) (g .align) name kind content)
+
+abbrev pub replaceInUpTo : ℕ → List ℕ → Region → List ℕ → List ℕ → Result
+replaceInUpTo most i g name content = inImage i g (replace most (bytesOf i g) (g .align) name content)
+
+abbrev pub removeInUpTo : ℕ → List ℕ → Region → List ℕ → Result
+removeInUpTo most i g name = inImage i g (remove most (bytesOf i g) (g .align) name)
+
+-- The same with the library's limit.
 
 abbrev pub addIn : List ℕ → Region → List ℕ → ℕ → List ℕ → Result
-addIn i g name kind content = inImage i g (add limit (bytesOf i g) (g .align) name kind content)
+addIn i g name kind content = addInUpTo limit i g name kind content
 
 abbrev pub replaceIn : List ℕ → Region → List ℕ → List ℕ → Result
-replaceIn i g name content = inImage i g (replace limit (bytesOf i g) (g .align) name content)
+replaceIn i g name content = replaceInUpTo limit i g name content
 
 abbrev pub removeIn : List ℕ → Region → List ℕ → Result
-removeIn i g name = inImage i g (remove limit (bytesOf i g) (g .align) name)
+removeIn i g name = removeInUpTo limit i g name

@@ -20,9 +20,9 @@ abbrev pub stepOn : Master → (Region → Step) → Step
 stepOn (Read g) call = call g
 stepOn (Refused r) call = StepRefused r
 
-abbrev pub checkOn : Master → (Region → Directory) → Directory
-checkOn (Read g) call = call g
-checkOn (Refused r) call = refusal (r .number) (r .place)
+abbrev pub checkOn : ℕ → Master → (Region → Directory) → Directory
+checkOn most (Read g) call = call g
+checkOn most (Refused r) call = refusal most (r .number) (r .place)
 
 -- A step from any number: refusals 1 to 8, then 9. w tells the guarded walk.
 
@@ -35,6 +35,10 @@ plainStep i n = stepOf false i n
 abbrev pub guardedStep : List ℕ → ℕ → Step
 guardedStep i n = stepOf true i n
 
--- The strict check: refusals 1 to 8, then 12, 13, 11; else the directory.
+-- The strict check, where at most that many components are allowed: refusals 1 to 8, then 12, 13, 11; else the directory.
+
+abbrev pub strictCheckUpTo : ℕ → List ℕ → Directory
+strictCheckUpTo most i = checkOn most (master i) (λ g. directory most (g .start) (verdict most (bytesOf i g) (g .align)))
+
 abbrev pub strictCheck : List ℕ → Directory
-strictCheck i = checkOn (master i) (λ g. directory (g .start) (verdict limit (bytesOf i g) (g .align)))
+strictCheck i = strictCheckUpTo limit i

@@ -48,10 +48,15 @@ verdict-order : verdict 0 region500 64 ∷ verdict 1 regionTwice 64 ∷ verdict 
 unfolding beBytes larchive cal head slot0 slot192 region be eqBytes all nameTests nameFits beforeZero fieldTests fieldFits magic startsWithMagic componentOf headerTests wellFormed fields judge any keep placesBelow places carries plain orElse first step onward follow steps listingFrom bears takes stray strays noTwo decide verdict
 verdict-order = refl
 
--- 256 components are allowed, and 257 are not: with names that are all alike, 11 is given for 256, and 13, which comes first, for 257.
-limits : decide limit [] (replicate 256 (entry 0 0x32 0)) ∷ decide limit [] (replicate 257 (entry 0 0x32 0)) ∷ [] ≡ refused 11 0 ∷ refused 13 0 ∷ []
+-- 1,024 components are allowed, and 1,025 are not: with names that are all alike, 11 is given for 1,024, and 13, which comes first, for 1,025.
+limits : decide limit [] (replicate 1024 (entry 0 0x32 0)) ∷ decide limit [] (replicate 1025 (entry 0 0x32 0)) ∷ [] ≡ refused 11 0 ∷ refused 13 0 ∷ []
 unfolding decide noTwo any bears eqBytes cal entry
 limits = refl
+
+-- With document 01's limit, 256 were allowed, and 257 were not.
+limits-before : decide 256 [] (replicate 256 (entry 0 0x32 0)) ∷ decide 256 [] (replicate 257 (entry 0 0x32 0)) ∷ [] ≡ refused 11 0 ∷ refused 13 0 ∷ []
+unfolding decide noTwo any bears eqBytes cal entry
+limits-before = refl
 
 -- The guarded walk lists only cal/13, at 192.
 listed-500 : guardedListing region500 64 ≡ entry 192 0x33 24 ∷ []

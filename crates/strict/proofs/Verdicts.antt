@@ -10,7 +10,7 @@ use lib.Dec.{ltb}
 use borrow.Author.Tests.{lt-ltb, le-ltb, ltb-true, ltb-false}
 use Rattle.walk.specs.Walk.{Entry, plainListing}
 use Rattle.lookup.specs.Lookup.{TwoAlike}
-use Rattle.strict.specs.Strict.{limit, strays, toldApart, Accepted, Verdict, refused, accepted, placesOf, decide, verdict, LowestStray}
+use Rattle.strict.specs.Strict.{strays, toldApart, AcceptedUpTo, Verdict, refused, accepted, placesOf, decide, verdict, LowestStray}
 use Rattle.strict.proofs.Reasons.{lowest-first, alike-exactly}
 
 -- The four cases.
@@ -118,10 +118,11 @@ module _ (most : ℕ) (r : List ℕ) (a : ℕ) where
 
 -- The strict check accepts exactly under document 01's three conditions; then its places are the plain listing's.
 
-pub accepted-exactly : (r : List ℕ) (a : ℕ) (ps : List ℕ) → (verdict limit r a ≡ accepted ps) ↔ (Accepted r a × (ps ≡ placesOf (plainListing r a)))
-accepted-exactly r a ps = (
-  λ v. let h = accepts limit r a ps .0 v in (record { all-taken = h .0; few = h .1; told-apart = h .2 }, h .3),
-  λ h. accepts limit r a ps .1 (h .0 .all-taken, h .0 .few, h .0 .told-apart, h .1),
+pub accepted-exactly : {most : ℕ} (r : List ℕ) (a : ℕ) (ps : List ℕ)
+    → (verdict most r a ≡ accepted ps) ↔ (AcceptedUpTo most r a × (ps ≡ placesOf (plainListing r a)))
+accepted-exactly {most} r a ps = (
+  λ v. let h = accepts most r a ps .0 v in (record { all-taken = h .0; few = h .1; told-apart = h .2 }, h .3),
+  λ h. accepts most r a ps .1 (h .0 .all-taken, h .0 .few, h .0 .told-apart, h .1),
 )
 
 -- The refusals in the paper's words.
@@ -134,3 +135,16 @@ refused-11-alike most r a = (
   λ v. let h = refused-11 most r a .0 v in (h .0, h .1, alike-exactly (plainListing r a) .0 (h .2)),
   λ h. refused-11 most r a .1 (h .0, h .1, alike-exactly (plainListing r a) .1 (h .2)),
 )
+
+-- Where more components are allowed, the verdict stays as it was, unless that was 13.
+pub more-allowed : {m n : ℕ} → m ≤ n → (r : List ℕ) (a : ℕ) → (verdict m r a ≡ refused 13 0) ⊎ (verdict n r a ≡ verdict m r a)
+unfolding decide verdict
+more-allowed {m} {n} h r a = go (strays r a) (plainListing r a)
+  where
+    go : (s : List ℕ) (l : List Entry) → (decide m s l ≡ refused 13 0) ⊎ (decide n s l ≡ decide m s l)
+    go (p ∷ ps) l = inr refl
+    go [] l = by (ltb m (length l)) refl
+      where
+        by : (b : Bool) → ltb m (length l) ≡ b → (decide m [] l ≡ refused 13 0) ⊎ (decide n [] l ≡ decide m [] l)
+        by true e = inl (rw e)
+        by false e = inr (rw (e, le-ltb n (length l) (omega (arith, ltb-false m (length l) e))))

@@ -11,9 +11,9 @@ use Rattle.component.specs.Component.{Component}
 use Rattle.walk.specs.Walk.{Entry, allPlaces, carries, guarded, plainListing, Place}
 use Rattle.lookup.specs.Lookup.{bears}
 
--- How many components a region may have.
+-- How many components a region may have (request 6; 256 in document 01).
 abbrev pub limit : ℕ
-limit = 256
+limit = 1024
 
 -- A listing has a component at the place p.
 unfoldable pub takes : List Entry → ℕ → Bool
@@ -31,14 +31,17 @@ strays r a = keep (stray r (plainListing r a)) (allPlaces r a)
 abbrev pub toldApart : List Entry → Bool
 toldApart l = noTwo (λ t. bears (t .component .name)) l
 
--- The strict check accepts.
-pub record Accepted (r : List ℕ) (a : ℕ) : Type 0 where
+-- The strict check accepts, where at most that many components are allowed.
+pub record AcceptedUpTo (most : ℕ) (r : List ℕ) (a : ℕ) : Type 0 where
   -- "every place with the magic is one the plain walk takes"
   pub all-taken : strays r a ≡ []
-  -- "there are at most 256 components"
-  pub few : length (plainListing r a) ≤ limit
+  -- "there are at most 256 components", 1,024 by request 6
+  pub few : length (plainListing r a) ≤ most
   -- "and no two names are equal"
   pub told-apart : toldApart (plainListing r a) ≡ true
+
+abbrev pub Accepted : List ℕ → ℕ → Type 0
+Accepted r a = AcceptedUpTo limit r a
 
 -- A refusal's number and its place, or the places of the components.
 pub data Verdict : Type 0 where

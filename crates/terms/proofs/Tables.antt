@@ -1,13 +1,13 @@
 -- An order of tests gives the numbers of a table: each exactly when the table says.
 use Prim.Native.Nat.{ℕ, _<_}
 use mathlib.Core.Path.{_≡_, refl, sym, subst, _∙_}
-use mathlib.Core.Bool.{Bool, true, false, cond, _||_, true≢false}
+use mathlib.Core.Bool.{Bool, true, false, cond, not, _&&_, _||_, true≢false}
 use mathlib.Core.Logic.{_⊎_, inl, inr, _↔_}
 use mathlib.Core.List.{List, [], _∷_, _++_}
 use lib.Dec.{leb, eqb}
-use borrow.Author.Tests.{leb-false, lt-leb, eqb-false, ne-eqb}
+use borrow.Author.Tests.{leb-false, lt-leb, eqb-false, ne-eqb, not-true}
 use Rattle.number.specs.Tests.{every}
-use Rattle.number.proofs.Tested.{or-false}
+use Rattle.number.proofs.Tested.{or-false, both-true}
 use Rattle.terms.specs.Refusals.{Test, test, firstFailed}
 use Rattle.terms.specs.Table.{Row, row, Given}
 
@@ -111,3 +111,25 @@ given-later (x ∷ xs) ys n z g h = go (eqb (x .number) 0) refl z g (given-later
     go true q f p ih = absurd (true≢false (sym f))
     go false q f (inl p) ih = absurd (eqb-false (x .number) 0 q (sym (p .1)))
     go false q f (inr p) ih = inr (p .0, ih f (p .1) h)
+
+-- No row has the number n, and it is not 0.
+abbrev pub absent : ℕ → List Row → Bool
+absent n [] = not (eqb n 0)
+absent n (x ∷ xs) = not (eqb n (x .number)) && absent n xs
+
+here : (n : ℕ) (x : Row) (xs : List Row) → absent n (x ∷ xs) ≡ true → n ≡ x .number → ⊥
+here n x xs h = eqb-false n (x .number) (not-true _ (both-true _ (absent n xs) h .0))
+
+later : (n : ℕ) (x : Row) (xs : List Row) → absent n (x ∷ xs) ≡ true → absent n xs ≡ true
+later n x xs h = both-true (not (eqb n (x .number))) (absent n xs) h .1
+
+pub not-given : (n : ℕ) (xs : List Row) → absent n xs ≡ true → Given xs n → ⊥
+not-given n [] h e = eqb-false n 0 (not-true _ h) e
+not-given n (x ∷ xs) h (inl e) = here n x xs h (e .1)
+not-given n (x ∷ xs) h (inr e) = not-given n xs (later n x xs h) (e .1)
+
+-- A number that no row of the first part has is given by the second, and by the first none is.
+pub given-split : (xs ys : List Row) (n : ℕ) → absent n xs ≡ true → Given (xs ++ ys) n → Given xs 0 × Given ys n
+given-split [] ys n h g = (refl, g)
+given-split (x ∷ xs) ys n h (inl g) = absurd (here n x xs h (g .1))
+given-split (x ∷ xs) ys n h (inr g) = let (z, q) = given-split xs ys n (later n x xs h) (g .1) in (inr (g .0, z), q)

@@ -1,95 +1,74 @@
-use Prim.Native.Nat.{_+_, _-_}
-use mathlib.Core.Path.{_≡_, sym, _∙_}
+-- The loop's invariant: no two from i on have the same name, and their digests are noted.
+use Prim.Native.Nat.{_+_, _-_, _≤_}
+use mathlib.Core.Path.{_≡_, refl, sym, _∙_}
+use mathlib.Core.Bool.{true}
 use native.Mathlib.Nat.{sub-zero}
 use native.Mathlib.Omega.{arith}
-use lib.ListN.{take, drop, getD}
-use Rattle.number.specs.Lists.{any}
-use Rattle.checker.specs.Directory.{nameAt, named, apartAt}
-use Rattle.checker.proofs.Names.{apart-not, apart-on, apart-end}
+use lib.ListN.{length, take, drop}
+use Rattle.checker.specs.Directory.{apartAt, AllNoted}
+use Rattle.checker.proofs.Names.{apart-not, apart-on, apart-end, apart-before}
 use borrow.Author.Needs.{needs}
 use Rattle.checker.proofs.apart.Statement.{statement}
 use Rattle.checker.proofs.apart.Tie as tie
 
 abbrev Inv-loop : tie.InvT-loop
-Inv-loop r places n digests i₀ i = apartAt r (take n places) ≡ apartAt r (take (n - i) (drop i places))
+Inv-loop r places digests n marks₀ i₀ marks i = (i ≤ n) × (length marks ≡ 2048) × AllNoted marks digests i n × (apartAt r (take (n - i) (drop i places)) ≡ true)
 
 abbrev μ-loop : tie.MeasureT-loop
-μ-loop r places n digests i₀ i = n - i
-
--- the places where the paths begin
-abbrev start : tie.At-loop Inv-loop μ-loop → tie.Start Inv-loop μ-loop
-start c = c .before .before .before .before .before .before
-
-abbrev loop : tie.After-digests3 Inv-loop μ-loop → tie.At-loop Inv-loop μ-loop
-loop c = c .before .before .before
-
-slice-aggregate-name-digests : tie.Need-slice-aggregate-name-digests Inv-loop μ-loop
-slice-aggregate-name-digests c = search needs
-
-name-digests-requires : tie.Need-name-digests-requires Inv-loop μ-loop
-name-digests-requires c κs = search needs
+μ-loop r places digests n marks₀ i₀ marks i = i
 
 loop-holds : tie.Need-loop-holds Inv-loop μ-loop
-loop-holds c = rw sub-zero
+loop-holds c = let a = c .before .before .before .args in
+    (omega arith, refl, (λ k l h. absurd (omega arith)), apart-end (a .r .now) (a .places .now) (a .n) (a .n) (omega arith))
 
-mul-p : tie.Need-mul-p Inv-loop μ-loop
-mul-p c = search needs
+-- where the paths begin
+abbrev start : tie.At-loop Inv-loop μ-loop → tie.Start Inv-loop μ-loop
+start c = c .before .before .before .before
 
-shared-slice-read-p : tie.Need-shared-slice-read-p Inv-loop μ-loop
-shared-slice-read-p c = search needs
+abbrev loop : tie.After-named-again Inv-loop μ-loop → tie.At-loop Inv-loop μ-loop
+loop c = c .before .before .before
 
-mul-asked : tie.Need-mul-asked Inv-loop μ-loop
-mul-asked c = search needs
+sub-i : tie.Need-sub-i Inv-loop μ-loop
+sub-i c = search needs
 
-array-read-asked : tie.Need-array-read-asked Inv-loop μ-loop
-array-read-asked c = search needs
+slice-aggregate-named-again : tie.Need-slice-aggregate-named-again Inv-loop μ-loop
+slice-aggregate-named-again c = search needs
 
-slice-aggregate-repeated : tie.Need-slice-aggregate-repeated Inv-loop μ-loop
-slice-aggregate-repeated c = search needs
-
-add-repeated : tie.Need-add-repeated Inv-loop μ-loop
-add-repeated c = search needs
-
-repeated-requires : tie.Need-repeated-requires Inv-loop μ-loop
-repeated-requires c κs =
-    let l = loop c in
+named-again-requires : tie.Need-named-again-requires Inv-loop μ-loop
+named-again-requires c κs =
+    let l = c .before .before in
     let s = start l in
-    let d = l .before .before .name-digests .ensures in
-    (omega arith, d, d .each (l .loop .i) (omega arith))
-
--- what the search says of the components after the place i
-said : (c : tie.After-repeated Inv-loop μ-loop) →
-    let l = loop (c .before) in
-    let a = start l .args in
-    let name = nameAt (a .r .now) (getD (a .places .now) (l .loop .i) 0) in
-    any (named (a .r .now) name) (take (a .n - (l .loop .i + 1)) (drop (l .loop .i + 1) (a .places .now))) ≡ c .repeated .result
-said c = sym (c .repeated .ensures)
+    (omega arith, s .pre, l .loop .inv .1, λ k h m. l .loop .inv .2 k (omega arith) m)
 
 returns : tie.Need-returns Inv-loop μ-loop
 returns c =
-    let e = c .before in
-    let l = loop (e .before) in
-    let a = start l .args in
-    sym (l .loop .inv ∙ apart-not (a .r .now) (a .places .now) (l .loop .i) (a .n) (omega arith) (start l .pre .0) (said e ∙ c .if1 .taken))
-
-add-i : tie.Need-add-i Inv-loop μ-loop
-add-i c = search needs
+    let h = c .before .before in
+    let l = loop h in
+    let s = start l in
+    let a = s .args in
+    let j = l .loop .i - 1 in
+    let two = apart-not (a .r .now) (a .places .now) j (a .n) (omega arith) (s .pre .stored) (sym (h .named-again .ensures .0) ∙ c .if1 .taken) in
+    sym (apart-before (a .r .now) (a .places .now) (a .n) (s .pre .stored) j (omega arith) two)
 
 loop-less : tie.Need-loop-less Inv-loop μ-loop
 loop-less c = search needs
 
 loop-again : tie.Need-loop-again Inv-loop μ-loop
 loop-again c =
-    let e = c .before in
-    let l = loop (e .before) in
-    let a = start l .args in
-    l .loop .inv ∙ apart-on (a .r .now) (a .places .now) (l .loop .i) (a .n) (omega arith) (start l .pre .0) (said e ∙ c .if1 .left)
+    let h = c .before .before in
+    let l = loop h in
+    let s = start l in
+    let a = s .args in
+    let j = l .loop .i - 1 in
+    let e : j + 1 ≡ l .loop .i = omega arith in
+    let on = apart-on (a .r .now) (a .places .now) j (a .n) (omega arith) (s .pre .stored) (sym (h .named-again .ensures .0) ∙ c .if1 .left) in
+    (omega arith, search needs, h .named-again .ensures .1, on ∙ rw e (l .loop .inv .3))
 
 returns-2 : tie.Need-returns-2 Inv-loop μ-loop
 returns-2 c =
     let l = c .before in
-    let a = start l .args in
-    sym (l .loop .inv ∙ apart-end (a .r .now) (a .places .now) (l .loop .i) (a .n) (omega arith))
+    let z : l .loop .i ≡ 0 = omega arith in
+    sym (rw (z, sub-zero) at (l .loop .inv .3))
 
 pub apart-spec : {M : Type 1} → statement M
 apart-spec =
@@ -97,18 +76,11 @@ apart-spec =
     (tie.spec
     Inv-loop
     μ-loop
-    slice-aggregate-name-digests
-    name-digests-requires
     loop-holds
-    mul-p
-    shared-slice-read-p
-    mul-asked
-    array-read-asked
-    slice-aggregate-repeated
-    add-repeated
-    repeated-requires
+    sub-i
+    slice-aggregate-named-again
+    named-again-requires
     returns
-    add-i
     loop-less
     loop-again
     returns-2)

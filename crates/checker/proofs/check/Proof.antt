@@ -33,7 +33,7 @@ abbrev says : tie.After-survey → Verdict
 says c = verdict limit (region c) (start c .args .region .align)
 
 -- what the survey leaves in the array
-stored : (c : tie.After-survey) → c .survey .last .1 .1 .0 ≡ placesIn noPlaces (says c)
+stored : (c : tie.After-survey) → c .survey .last .1 .1 .0 ≡ placesIn (noPlaces limit) (says c)
 unfolding noPlaces
 stored c = c .survey .ensures .1 .0
 
@@ -48,9 +48,9 @@ told-requires c κs =
     let n = counted s in (
       omega (arith, n, ap length (stored s), count-room (region s) (a .region .align) (a .region .start) (says s)),
       λ k h.
-          let g : getD (s .survey .last .1 .1 .0) k 0 ≡ getD (placesIn noPlaces (says s)) k 0 = ap (λ (x : List ℕ). getD x k 0) (stored s) in
+          let g : getD (s .survey .last .1 .1 .0) k 0 ≡ getD (placesIn (noPlaces limit) (says s)) k 0 = ap (λ (x : List ℕ). getD x k 0) (stored s) in
           let i = place-inside (region s) (a .region .align) (a .region .start) (says s) refl k (omega (arith, n, h)) in
-          omega (arith, good, i, g, bytes-inside (a .image .now) (a .region) (getD (placesIn noPlaces (says s)) k 0) i),
+          omega (arith, good, i, g, bytes-inside (a .image .now) (a .region) (getD (placesIn (noPlaces limit) (says s)) k 0) i),
     )
 
 returns : tie.Need-returns

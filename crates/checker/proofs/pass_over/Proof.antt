@@ -1,30 +1,33 @@
-use Prim.Native.Nat.{_+_, _-_, _≤_, _<_}
+use Prim.Native.Nat.{ℕ, _+_, _-_, _≤_, _<_}
 use mathlib.Core.Path.{_≡_, sym, ap, _∙_}
 use mathlib.Core.Bool.{true≢false, false≢true}
 use native.Mathlib.Omega.{arith}
-use lib.ListN.{length, drop}
+use mathlib.Core.List.{List}
+use lib.ListN.{length, drop, set}
+use Rattle.number.specs.Bytes.{partOf}
 use Rattle.component.specs.Component.{judge, judged}
 use Rattle.component.specs.declared.Judged.the-variants.{WellFormed}
 use Rattle.walk.proofs.Stepping.{fields-said, header-fits}
 use Rattle.strict.specs.Strict.{refused}
+use Rattle.checker.specs.Directory.{digestOf}
 use Rattle.checker.proofs.Passes.{Passing, pass-start, pass-few, pass-end, pass-ill, pass-buried, pass-on, pass-later}
 use borrow.Author.Needs.{needs}
 use Rattle.checker.proofs.pass_over.Statement.{statement}
 use Rattle.checker.proofs.pass_over.Tie as tie
 
 abbrev Inv-loop : tie.InvT-loop
-Inv-loop r align places₀ n₀ p₀ places n p = Passing r align places₀ places n p
+Inv-loop r align places₀ digests₀ n₀ p₀ places digests n p = Passing r align places₀ places digests₀ digests n p
 
 abbrev μ-loop : tie.MeasureT-loop
-μ-loop r align places₀ n₀ p₀ places n p = length r - p
+μ-loop r align places₀ digests₀ n₀ p₀ places digests n p = length r - p
 
 next-magic-requires : tie.Need-next-magic-requires Inv-loop μ-loop
 next-magic-requires c κs = search needs
 
 loop-holds : tie.Need-loop-holds Inv-loop μ-loop
 loop-holds c =
-    let a = c .before .before .before .args in
-    pass-start (a .r .now) (a .align) (a .places .now) (c .next-magic .result) (c .next-magic .ensures .0)
+    let a = c .before .before .before .before .args in
+    pass-start (a .r .now) (a .align) (a .places .now) (a .digests .now) (c .next-magic .result) (c .next-magic .ensures .0)
 
 sub-fields : tie.Need-sub-fields Inv-loop μ-loop
 sub-fields c = search needs
@@ -43,7 +46,7 @@ abbrev loop : tie.After-fields Inv-loop μ-loop → tie.At-loop Inv-loop μ-loop
 loop c = c .before .before .before
 
 abbrev start : tie.At-loop Inv-loop μ-loop → tie.Start Inv-loop μ-loop
-start c = c .before .before .before .before
+start c = c .before .before .before .before .before
 
 inside : (c : tie.After-fields Inv-loop μ-loop) → loop c .loop .p < length (start (loop c) .args .r .now)
 inside c = c .before .before .loop-test .taken
@@ -76,7 +79,10 @@ astray-requires : tie.Need-astray-requires Inv-loop μ-loop
 astray-requires c κs = search needs
 
 same-length : tie.Need-same-length Inv-loop μ-loop
-same-length c = loop (c .before .before .before .before .before .before .before) .loop .inv .long
+same-length c = loop (c .before .before .before .before .before .before .before) .loop .inv .stored .1
+
+same-length-2 : tie.Need-same-length-2 Inv-loop μ-loop
+same-length-2 c = loop (c .before .before .before .before .before .before .before) .loop .inv .digested .1
 
 returns : tie.Need-returns Inv-loop μ-loop
 returns c =
@@ -92,13 +98,26 @@ returns c =
 store-requires : tie.Need-store-requires Inv-loop μ-loop
 store-requires c κs = search needs
 
+rest-requires : tie.Need-rest-requires Inv-loop μ-loop
+rest-requires c κs = search needs
+
+part-requires : tie.Need-part-requires Inv-loop μ-loop
+part-requires c κs = search needs
+
+store-digest-requires : tie.Need-store-digest-requires Inv-loop μ-loop
+store-digest-requires c κs = search needs
+
+-- behind both stores: the path up to the first
+abbrev unstored : tie.After-store-digest Inv-loop μ-loop → tie.Else1 Inv-loop μ-loop
+unstored c = c .before .before .before .before .before .before .before .before
+
 add-n : tie.Need-add-n Inv-loop μ-loop
 add-n c =
-    let e = c .before .before .before .before in
+    let e = unstored (c .before .before) in
     let j = e .before .before .before .before in
     let l = loop (j .before .before) in
     let a = start l .args in
-    omega (arith, pass-few (l .loop .inv), inside (j .before .before))
+    omega (arith, pass-few (l .loop .inv), inside (j .before .before), l .before .before .before .before)
 
 onward-requires : tie.Need-onward-requires Inv-loop μ-loop
 onward-requires c κs = search needs
@@ -109,7 +128,7 @@ next-magic-requires-2 c κs = search needs
 loop-less : tie.Need-loop-less Inv-loop μ-loop
 loop-less c =
     let w = c .before in
-    let e = w .before .before .before .before .before in
+    let e = unstored (w .before .before .before) in
     let j = e .before .before .before .before in
     let f = j .before .before in
     let l = loop f in
@@ -120,15 +139,19 @@ loop-less c =
 loop-again : tie.Need-loop-again Inv-loop μ-loop
 loop-again c =
     let w = c .before in
-    let s = w .before .before .before in
-    let e = s .before .before in
+    let t = w .before .before .before in
+    let y = t .before in
+    let s = y .before .before .before .before .before in
+    let e = unstored t in
     let q = e .before in
     let j = q .before .before .before in
     let f = j .before .before in
     let l = loop f in
     let a = start l .args in
-    let on = pass-on (l .loop .inv) (inside f) (header j) (q .next-after .result) (w .onward .result) (c .next-magic2 .result) _ in
-    on (q .next-after .ensures .0) (e .if1 .left) (w .onward .ensures .0) (c .next-magic2 .ensures .0) (s .store .ensures)
+    let on = pass-on (l .loop .inv) (inside f) (header j) (q .next-after .result) (w .onward .result) (c .next-magic2 .result) _ _ in
+    let name = y .part .ensures .0 ∙ ap (λ (x : List ℕ). partOf x 24 (j .j .given .0 .0 .named)) (y .before .rest .ensures .0) in
+    let digest = t .store-digest .ensures ∙ ap (λ (x : List ℕ). set (l .loop .digests) (l .loop .n) (digestOf x)) name in
+    on (q .next-after .ensures .0) (e .if1 .left) (w .onward .ensures .0) (c .next-magic2 .ensures .0) (s .store .ensures) digest
 
 enum-told : tie.Need-enum-told Inv-loop μ-loop
 enum-told c = search needs
@@ -136,8 +159,11 @@ enum-told c = search needs
 astray-requires-2 : tie.Need-astray-requires-2 Inv-loop μ-loop
 astray-requires-2 c κs = search needs
 
-same-length-2 : tie.Need-same-length-2 Inv-loop μ-loop
-same-length-2 c = loop (c .before .before .before) .loop .inv .long
+same-length-3 : tie.Need-same-length-3 Inv-loop μ-loop
+same-length-3 c = loop (c .before .before .before) .loop .inv .stored .1
+
+same-length-4 : tie.Need-same-length-4 Inv-loop μ-loop
+same-length-4 c = loop (c .before .before .before) .loop .inv .digested .1
 
 returns-2 : tie.Need-returns-2 Inv-loop μ-loop
 returns-2 c =
@@ -148,8 +174,11 @@ returns-2 c =
     let s = c .astray2 .ensures in
     record { stray = λ _. ((λ m. b m ∙ ap (refused 12) (sym (s .1))), omega (arith, inside f, s .1)); clean = λ e. absurd (true≢false (sym (s .0) ∙ e)) }
 
-same-length-3 : tie.Need-same-length-3 Inv-loop μ-loop
-same-length-3 c = c .before .loop .inv .long
+same-length-5 : tie.Need-same-length-5 Inv-loop μ-loop
+same-length-5 c = c .before .loop .inv .stored .1
+
+same-length-6 : tie.Need-same-length-6 Inv-loop μ-loop
+same-length-6 c = c .before .loop .inv .digested .1
 
 returns-3 : tie.Need-returns-3 Inv-loop μ-loop
 returns-3 c =
@@ -175,8 +204,12 @@ pass-over-spec =
     next-after-requires
     astray-requires
     same-length
+    same-length-2
     returns
     store-requires
+    rest-requires
+    part-requires
+    store-digest-requires
     add-n
     onward-requires
     next-magic-requires-2
@@ -184,7 +217,9 @@ pass-over-spec =
     loop-again
     enum-told
     astray-requires-2
-    same-length-2
-    returns-2
     same-length-3
+    same-length-4
+    returns-2
+    same-length-5
+    same-length-6
     returns-3)

@@ -12,7 +12,7 @@ use Rattle.checker.proofs.repeated.Statement.{statement}
 use Rattle.checker.proofs.repeated.Tie as tie
 
 shared-requires : tie.Need-shared-requires
-shared-requires c κs = let s = c .before .before .before in let d = s .pre .1 in (omega (arith, s .pre .0), omega (arith, d .few, d .wide))
+shared-requires c κs = let s = c .before .before .before in (omega (arith, s .pre .0), s .pre .1 .taken)
 
 -- where the paths begin
 abbrev start : tie.After-shared → tie.Start
