@@ -2,11 +2,11 @@
 use crate::images::{self, blank, put, Random, BOOTBLOCK};
 use crate::plain::{self, LIMIT};
 use crate::timing::{CALLS, SIDES};
-use crate::{boundaries, edit_answers, edit_times, ours, SIZES};
+use crate::{boundaries, check_times, edit_answers, edit_times, ours, SIZES};
 use std::sync::atomic::{AtomicUsize, Ordering};
 
 // Fewest comparisons of a run without times.
-const FLOOR: usize = 481_000;
+const FLOOR: usize = 482_000;
 
 static COMPARED: AtomicUsize = AtomicUsize::new(0);
 
@@ -122,7 +122,7 @@ pub fn alone() -> bool {
     for case in SIZES.into_iter().flat_map(images::cases) {
         differing += compare(case.label, &case.image, &case.name);
     }
-    differing += counted(edit_times::differing(&edit_times::cases()));
+    differing += counted(check_times::differing(&check_times::cases())) + counted(edit_times::differing(&edit_times::cases()));
     let held = boundaries::held();
     println!("answers: {} compared, and {held} of them with numbers written out; {differing} differ", compared());
     let few = compared() < FLOOR || held < boundaries::FLOOR;

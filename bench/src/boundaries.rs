@@ -4,11 +4,12 @@ use crate::answers::{compare, counted};
 use crate::edits::{carried_out, Request, ADD, EDITS, REMOVE, REPLACE};
 use crate::images::{blank, framed, put, put_whole};
 use crate::timing::{CALLS, SIDES};
+use crate::{ours, plain};
 use std::ops::Range;
 use std::sync::atomic::{AtomicUsize, Ordering};
 
 // Fewest answers that are held to their numbers.
-pub const FLOOR: usize = 405;
+pub const FLOOR: usize = 518;
 
 static HELD: AtomicUsize = AtomicUsize::new(0);
 
@@ -177,18 +178,56 @@ fn aligns() -> usize {
     unmet
 }
 
-// 256 components are accepted, one at each place that align 65,536 can have, or closer; 257 are not.
+// So many components, c0 and on, one at each place from the first.
+fn crowd(number: usize, align: usize) -> Vec<u8> {
+    let mut image = blank(MOST, 1024, align, 0, 0xFF);
+    for k in 0..number {
+        put_whole(&mut image, k * align, format!("c{k}").as_bytes(), 3, &[0; 16]);
+    }
+    image
+}
+
+// Asks for the k-th place of the directory, on both sides.
+fn hold_place(image: &[u8], k: usize, expected: u64) -> usize {
+    let (answer, plain) = (ours::strict_place(image, k), plain::strict_place(image, k));
+    let differing = counted((usize::from(answer != plain), 1));
+    if answer == expected {
+        HELD.fetch_add(1, Ordering::Relaxed);
+        return differing;
+    }
+    println!("UNMET: place {k} of the directory: {answer:#x}, and {expected:#x} expected; plain Rust: {plain:#x}");
+    differing + 1
+}
+
+// 1,024 components are accepted, and 1,025 are not; 256 and 257 stand for the limit before. One stands at each place that align 65,536 can have, or closer.
 fn counts() -> usize {
     let mut unmet = 0;
-    for (number, align, good) in [(256, WIDE, true), (256, 4096, true), (257, 4096, false), (1000, 4096, false)] {
-        let mut image = blank(MOST, 1024, align, 0, 0xFF);
-        for k in 0..number {
-            put(&mut image, k * align, format!("c{k}").as_bytes(), 16);
-        }
+    for (number, align, good) in [
+        (256, WIDE, true),
+        (256, 4096, true),
+        (257, 4096, true),
+        (1_023, 4096, true),
+        (1_024, 4096, true),
+        (1_025, 4096, false),
+        (4_000, 4096, false),
+    ] {
+        let image = crowd(number, align);
         let n = number as u64;
         let strict = if good { n } else { refused(13, 0) };
         let last = (n - 1) * align as u64;
         unmet += hold("count", &image, format!("c{}", number - 1).as_bytes(), [n, n, last, last, strict]);
+        for k in [0, 254, 255, 256, 257, 1_022, 1_023, 1_024] {
+            let place = if k < number { (k * align) as u64 } else { 0 };
+            unmet += hold_place(&image, k, if good { place } else { refused(13, 0) });
+        }
+    }
+    // The last one has the first one's name: 11 at 1,024, and 13 at 1,025. With the magic where no component is it is 12 at both.
+    for (number, strict) in [(1_024, 11), (1_025, 13)] {
+        let (n, mut twice) = (number as u64, crowd(number, 4096));
+        put_whole(&mut twice, (number - 1) * 4096, b"c0", 3, &[0; 16]);
+        unmet += hold("count, twice", &twice, b"c0", [n, n, 0, refused(11, 0), refused(strict, 0)]);
+        twice[8_192_000..][..8].copy_from_slice(b"LARCHIVE");
+        unmet += hold("count, stray magic", &twice, b"c0", [n, n, 0, refused(11, 0), refused(12, 8_192_000)]);
     }
     unmet
 }
@@ -281,25 +320,47 @@ fn edits_at_offset() -> usize {
         + hold_edit(&stray, ADD, b"log", b"new", refused(12, 1024), None)
 }
 
-// An add is done beside 255 components, and refused beside 256; the other edits are done there. Beside 257 all are refused.
+// An add is done beside 1,023 components, and refused beside 1,024; the other edits are done there. Beside 1,025 all are refused.
 fn edits_at_count() -> usize {
     let mut unmet = 0;
-    for number in [255, 256, 257] {
-        let mut image = blank(MOST, 1024, 4096, 0, 0xFF);
-        for k in 0..number {
-            put_whole(&mut image, k * 4096, format!("c{k}").as_bytes(), 3, &[0; 16]);
-        }
+    let thirteen = refused(13, 0);
+    for (number, place, others) in [
+        (255, 1_044_480, 8192),
+        (256, 1_048_576, 8192),
+        (257, 1_052_672, 8192),
+        (1_023, 4_190_208, 8192),
+        (1_024, thirteen, 8192),
+        (1_025, thirteen, thirteen),
+    ] {
+        let image = crowd(number, 4096);
         let (slot, free) = (8192..12_288, number * 4096..MOST - 1024);
-        let replaced = Some(written(&image, slot.clone(), b"c2", 3, b"new"));
-        let (others, replaced, removed) =
-            if number == 257 { (refused(13, 0), None, None) } else { (8192, replaced, Some(cleared(&image, slot))) };
-        let added = (number == 255).then(|| written(&image, free, b"new", KIND, b"new"));
-        let place = if number == 255 { 1_044_480 } else { refused(13, 0) };
+        let added = (place != thirteen).then(|| written(&image, free, b"new", KIND, b"new"));
+        let replaced = (others != thirteen).then(|| written(&image, slot.clone(), b"c2", 3, b"new"));
+        let removed = (others != thirteen).then(|| cleared(&image, slot));
         unmet += hold_edit(&image, ADD, b"new", b"new", place, added);
         unmet += hold_edit(&image, REPLACE, b"c2", b"new", others, replaced);
         unmet += hold_edit(&image, REMOVE, b"c2", b"", others, removed);
     }
-    unmet
+    unmet + edits_when_full()
+}
+
+// At 1,024 components: 14 and 15 come before 13, and 16 and 17 after it. What an add to 1,023 leaves takes no other.
+fn edits_when_full() -> usize {
+    let (mut full, room) = (crowd(1_024, 4096), crowd(1_023, 4096));
+    let magic = [&[7; 4096 - 40][..], b"LARCHIVE"].concat();
+    let thirteen = refused(13, 0);
+    let mut unmet = 0;
+    unmet += hold_edit(&full, ADD, b"a b", b"", refused(14, 0), None);
+    unmet += hold_edit(&full, ADD, b"c1023", b"", refused(15, 0), None);
+    unmet += hold_edit(&full, ADD, b"new", &magic, thirteen, None);
+    unmet += hold_edit(&full, ADD, b"new", &vec![7; MOST], thirteen, None);
+    unmet += hold_edit(&room, ADD, b"new", &magic, refused(16, 0), None);
+    unmet += hold_edit(&room, ADD, b"new", &vec![7; MOST], refused(17, 0), None);
+    let added = written(&room, 4_190_208..MOST - 1024, b"new", KIND, b"");
+    unmet += hold("added", &added, b"new", at(1_024, 4_190_208));
+    unmet += hold_edit(&added, ADD, b"more", b"", thirteen, None);
+    put_whole(&mut full, 1_023 * 4096, b"c0", 3, &[0; 16]);
+    unmet + hold_edit(&full, ADD, b"new", b"", refused(11, 0), None)
 }
 
 // How many answers at the boundaries are not what they must be, or differ from plain Rust.

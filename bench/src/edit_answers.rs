@@ -42,11 +42,17 @@ fn some_request(random: &mut Random, align: usize) -> Request {
     Request { name, kind: random.next() as u32, content }
 }
 
-// An image with components one after the other, up to two places apart, and its alignment. One in forty has as many as are allowed, or one less or more.
+// An image with components one after the other, up to two places apart, and its alignment. One in forty has as many as are allowed, or one less or more;
+// one in 160 has 255 to 257, which was the limit of document 01.
 fn some_image(random: &mut Random) -> (Vec<u8>, usize) {
-    let many = random.below(40) == 0;
+    let kind = random.below(160);
+    let many = kind < 5;
     let align = if many { 16 } else { 16 << random.below(7) };
-    let number = if many { LIMIT - 1 + random.below(3) } else { random.below(10) };
+    let number = match kind {
+        0..=3 => LIMIT - 1 + random.below(3),
+        4 => 255 + random.below(3),
+        _ => random.below(10),
+    };
     let (start, bootblock) = (random.below(3) * align, 36 + random.below(64));
     let end = start + 48 * number + (2 + random.below(30)) * align + random.below(align);
     let mut image = blank(end + bootblock, bootblock, align, start, [0, 0xFF][random.below(2)]);

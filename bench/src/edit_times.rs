@@ -48,7 +48,7 @@ fn case(label: &str, spans: &[Range<usize>], written: usize, free: Option<Range<
     Case { label: label.to_string(), image, timed }
 }
 
-// Few small components, and a name of 15 MiB that no component has: refused by 10. Its bytes are those of the region where nothing stands.
+// As many small components as are allowed, and a name of 15 MiB that none has: refused by 10. Its bytes are those of the region where nothing stands.
 fn long_name() -> Case {
     let spans: Vec<Range<usize>> = (0..LIMIT).map(|k| k * 64..k * 64 + 40).collect();
     let mut case = case("a name of 15 MiB", &spans, SMALL, None, None);

@@ -3,6 +3,7 @@
 // measures the stack of each call, and fails if one takes too much.
 mod answers;
 mod boundaries;
+mod check_times;
 mod edit_answers;
 mod edit_times;
 mod edits;
@@ -75,15 +76,17 @@ fn main() -> ExitCode {
         }
     }
     drop(memory);
-    let edits = edit_times::cases();
-    differing += answers::counted(edit_times::differing(&edits));
+    let (checks, edits) = (check_times::cases(), edit_times::cases());
+    differing += answers::counted(check_times::differing(&checks)) + answers::counted(edit_times::differing(&edits));
     let missed = report(&labels, &times);
+    let (slow_checks, check_lines) = check_times::report(&checks, runs);
     let (slow, lines) = edit_times::report(&edits, runs);
     println!("answers: {} compared, {differing} differ", answers::compared());
     println!(
         "goals at 16 MiB: {QUOTIENT} times plain Rust, {GROWTH} times the time at 1 MiB: missed by {missed} of {}",
         labels.len() * CALLS.len()
     );
+    println!("strict check's goals with as many components as are allowed: missed by {slow_checks} of {check_lines}");
     println!("edits' goal at 16 MiB: {} times plain Rust: missed by {slow} of {lines}", edit_times::QUOTIENT);
     ExitCode::from(u8::from(differing > 0))
 }

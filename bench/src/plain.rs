@@ -2,7 +2,7 @@
 // Written for speed and for reading, with the standard library alone; nothing here is proved.
 const MAGIC: &[u8; 8] = b"LARCHIVE";
 // How many components an image may have.
-pub const LIMIT: usize = 256;
+pub const LIMIT: usize = 1024;
 
 // A refusal's number and the place that it tells.
 #[derive(Clone, Copy)]
@@ -80,15 +80,19 @@ struct Component<'a> {
     end: usize,
 }
 
-// 1 to 255 bytes of 0x21 to 0x7E.
-fn name_fits(name: &[u8]) -> bool {
-    (1..=255).contains(&name.len()) && name.iter().all(|b| (0x21..=0x7E).contains(b))
+fn printable(byte: &u8) -> bool {
+    (0x21..=0x7E).contains(byte)
 }
 
-// The name in a name field, which has zeros after it.
+// 1 to 255 bytes of 0x21 to 0x7E.
+pub fn name_fits(name: &[u8]) -> bool {
+    (1..=255).contains(&name.len()) && name.iter().all(printable)
+}
+
+// The name in a name field, which has zeros after it. The field is read once: what ends the name must be a zero like all that follows.
 fn name_in(field: &[u8]) -> Option<&[u8]> {
-    let (name, padding) = field.split_at(field.iter().position(|&b| b == 0)?);
-    (name_fits(name) && padding.iter().all(|&b| b == 0)).then_some(name)
+    let (name, padding) = field.split_at(field.iter().position(|b| !printable(b))?);
+    ((1..=255).contains(&name.len()) && padding.iter().all(|&b| b == 0)).then_some(name)
 }
 
 impl<'a> Region<'a> {
@@ -187,13 +191,24 @@ pub fn guarded_place(image: &[u8], name: &[u8]) -> u64 {
     told(find(true, image, name))
 }
 
-// A number made of a name's bytes. Names with different digests differ.
-fn digest(name: &[u8]) -> u32 {
-    name.iter().fold(0, |h: u32, &b| h.wrapping_mul(31).wrapping_add(u32::from(b)))
+// A number made of a name's bytes, eight at a time; two words are taken at a step. Names with different digests differ.
+pub fn digest(name: &[u8]) -> u32 {
+    let halves = |w: u64| (w as u32).wrapping_mul(31).wrapping_add((w >> 32) as u32);
+    let further = |h: u32, w: u64| h.wrapping_mul(961).wrapping_add(halves(w));
+    let word = |&bytes: &[u8; 8]| u64::from_le_bytes(bytes);
+    let (words, rest) = name.as_chunks();
+    let (pairs, odd) = words.as_chunks::<2>();
+    let last = rest.iter().rev().fold(0, |w, &b| w << 8 | u64::from(b));
+    let two = |h: u32, [w, v]: &[[u8; 8]; 2]| {
+        h.wrapping_mul(923_521).wrapping_add(halves(word(w)).wrapping_mul(961)).wrapping_add(halves(word(v)))
+    };
+    further(odd.iter().map(word).fold(pairs.iter().fold(0, two), further), last)
 }
 
 // The strict check of a region, in one pass: a place with the magic that is ill formed, or that lies in a span, is astray. Then the names are
-// compared pairwise, by their digests first. The names are stored, and each component is handed to `keep` with its index. Answers their number.
+// compared with the later ones, from the last component down, by their digests, which the pass takes. A digest leaves a mark in a table: 0 stands
+// for none, 255 for different ones. Where no later digest left its mark there, none is the same. The names are stored, and each component is
+// handed to `keep` with its index. Answers their number.
 fn survey<'a>(
     region: &Region<'a>,
     names: &mut [&'a [u8]; LIMIT],
@@ -202,6 +217,7 @@ fn survey<'a>(
     let length = region.bytes.len();
     let astray = |place: usize| Err(Refusal { number: 12, place: region.start + place });
     let mut count = 0;
+    let mut digests = [0; LIMIT];
     let mut place = region.next_magic(0, length);
     while place < length {
         let Some(component) = region.component_at(place) else {
@@ -213,6 +229,7 @@ fn survey<'a>(
         }
         if count < LIMIT {
             names[count] = component.name;
+            digests[count] = digest(component.name);
             keep(count, component);
         }
         count += 1;
@@ -221,18 +238,20 @@ fn survey<'a>(
     if count > LIMIT {
         return refused(13);
     }
-    let names = &names[..count];
-    let mut digests = [0; LIMIT];
-    for (digest_of, name) in digests.iter_mut().zip(names) {
-        *digest_of = digest(name);
-    }
-    let digests = &digests[..count];
+    let (names, digests) = (&names[..count], &digests[..count]);
     let repeated = |i: usize| {
         let (mine, later) = (digests[i], &digests[i + 1..]);
         later.contains(&mine) && later.iter().zip(&names[i + 1..]).any(|(&digest, &name)| digest == mine && name == names[i])
     };
-    if (0..count).any(repeated) {
-        return refused(11);
+    let mut marks = [0u8; 2048];
+    for i in (0..count).rev() {
+        let mixed = digests[i].wrapping_mul(2_654_435_761);
+        let slot = &mut marks[mixed as usize >> 21];
+        let mark = 1 + (mixed >> 13) as u8 % 254;
+        if (*slot == mark || *slot == 255) && repeated(i) {
+            return refused(11);
+        }
+        *slot = if *slot == 0 || *slot == mark { mark } else { 255 };
     }
     Ok(count)
 }

@@ -5,12 +5,14 @@ use crate::plain::LIMIT;
 use std::hint::black_box;
 use std::thread;
 
-// The most that a call may take, with as many places as are allowed today or more.
+// The most that a call may take, with as many components as are allowed.
 const MOST: usize = 24 << 10;
-// What a call may take besides its arrays. Then the arrays: the strict check's places and digests, a plan of 16 segments, a map of 256 areas.
+// What a call may take besides its arrays. Then the arrays: the strict check's places, digests and their marks, a plan of 16 segments,
+// a map of 256 areas.
 const FRAMES: usize = 1 << 10;
 const PLACES: usize = 8 * LIMIT;
 const DIGESTS: usize = 4 * LIMIT;
+const MARKS: usize = 2048;
 const PLAN: usize = 40 * 16;
 const AREAS: usize = 32 * 256;
 // The thread's stack, and how much of it is painted.
@@ -122,8 +124,9 @@ fn mapped() -> Vec<u8> {
 
 // The images and the arguments.
 struct Given {
-    // as many components as are allowed; one less; two with one name; a place with the magic and no component
+    // as many components as are allowed; one more; one less; two with one name; a place with the magic and no component
     full: Vec<u8>,
+    over: Vec<u8>,
     room: Vec<u8>,
     twice: Vec<u8>,
     stray: Vec<u8>,
@@ -146,7 +149,7 @@ fn given() -> Given {
     stray[LAST..][..8].copy_from_slice(b"LARCHIVE");
     let (last, fits, long) = (name_of(LIMIT - 1), vec![7; SLOT - 40], vec![7; LENGTH]);
     let magic = [&[7; 24], &b"LARCHIVE"[..]].concat();
-    Given { full, room, twice, stray, loads: loaded(), map: mapped(), last, fits, magic, long }
+    Given { full, over: filled(LIMIT + 1), room, twice, stray, loads: loaded(), map: mapped(), last, fits, magic, long }
 }
 
 // A call with its inputs, and what its arrays may take.
@@ -162,7 +165,7 @@ fn refused(number: u64) -> u64 {
 }
 
 fn lines(given: &Given) -> Vec<Line<'_>> {
-    let Given { full, room, twice, stray, loads, map, last, fits, magic, long } = given;
+    let Given { full, over, room, twice, stray, loads, map, last, fits, magic, long } = given;
     let (place, held) = (LAST as u64, (SLOT - 40) as u64);
     let of = |image, name, number, content, answer| Input { image, name, number, content, answer };
     let by_number = |image, number, answer| of(image, &[][..], number, &[][..], answer);
@@ -177,7 +180,7 @@ fn lines(given: &Given) -> Vec<Line<'_>> {
     let part = |length| vec![by_number(full, LAST, length), by_number(full, 1, 0), empty()];
     let check = |k, answer| {
         let strays = by_number(stray, k, refused(12) + place);
-        vec![by_number(full, k, answer), by_number(twice, k, refused(11)), strays, short()]
+        vec![by_number(full, k, answer), by_number(over, k, refused(13)), by_number(twice, k, refused(11)), strays, short()]
     };
     let add = vec![
         edit(room, b"new", fits, place),
@@ -199,7 +202,7 @@ fn lines(given: &Given) -> Vec<Line<'_>> {
     let map_at =
         |k, answer| vec![by_number(map, k, answer), by_number(loads, k, refused(29)), by_number(&map[..63], k, refused(29))];
     let line = |label, call, inputs| Line { label, call, inputs, arrays: 0 };
-    let check_line = |label, call, inputs, kept| Line { label, call, inputs, arrays: PLACES + DIGESTS + kept };
+    let check_line = |label, call, inputs, kept| Line { label, call, inputs, arrays: PLACES + DIGESTS + MARKS + kept };
     let plan_line = |label, call, inputs| Line { label, call, inputs, arrays: 4 * PLAN };
     let map_line = |label, call, inputs| Line { label, call, inputs, arrays: 2 * AREAS };
     vec![

@@ -84,3 +84,10 @@ pub fn many(count: usize, twice: bool) -> Vec<u8> {
     }
     Frame::new(end + 50, 36, 50, 16, 0).over(image)
 }
+
+/// The same with one more, `new` of type 7 and without content, in the place before them: what an add leaves.
+pub fn many_and_new(count: usize) -> Vec<u8> {
+    let mut image = many(count, false);
+    put(&mut image, 0, &Raw::new(b"new", 7, &[]).bytes());
+    image
+}

@@ -4,10 +4,10 @@ use std::thread;
 
 use crate::bytes::hex;
 use crate::capability::{Batch, Capability};
-use crate::master;
 use crate::protocol::{lines_of_answer, outcome, Case};
 use crate::run::{run, Words};
 use crate::tally::{clip, Tally};
+use crate::{master, required, walk};
 
 /// Cases in one run of the probe.
 const RUN: usize = 4_000;
@@ -39,11 +39,20 @@ fn ask(probe: &Words, capability: &Capability, part: &[Case], tally: &mut Tally)
     (text.split_terminator('\n').map(str::to_string).collect(), expected)
 }
 
+/// A component takes so many bytes at least.
+const LEAST: usize = 40;
+
 /// How a case came out, for counting. An answer to `u` or `v` tells no refusal: its image is counted by the one that it has.
+/// An answer of the strict check or an edit is counted by the number of components too.
 fn kinds(case: &Case, expected: &str) -> Vec<String> {
     let mut kinds = vec![outcome(expected)];
-    if let (b'u' | b'v', Err(number)) = (case.op, master::region(&case.image)) {
-        kinds.push(format!("image refused {number}"));
+    match (case.op, master::region(&case.image)) {
+        (b'u' | b'v', Err(number)) => kinds.push(format!("image refused {number}")),
+        (b'c' | b'a' | b'r' | b'd', Ok(region)) if case.image.len() >= 256 * LEAST => {
+            let count = walk::listing(&case.image, region, walk::judge).len();
+            kinds.extend(required::beside(&(case.op as char).to_string(), &kinds[0], count));
+        }
+        _ => {}
     }
     kinds
 }

@@ -2,7 +2,7 @@
 
 use std::sync::Arc;
 
-use crate::accepted::{accepted, many};
+use crate::accepted::{accepted, many, many_and_new};
 use crate::bytes::hex;
 use crate::capability::{Batch, Both, Capability, Literal};
 use crate::cases::{self, long_name, random_content, random_kind, random_name};
@@ -75,6 +75,8 @@ fn pairs() -> Vec<(u8, u32, u32)> {
     // 14 and 15 cannot hold together, so each stands with what comes before and after the two.
     list.extend([(b'a', 11, 14), (b'a', 11, 15), (b'a', 14, 13), (b'a', 15, 13), (b'a', 13, 16), (b'a', 16, 17)]);
     list.extend([(b'a', 14, 17), (b'a', 15, 16), (b'a', 13, 17)]);
+    // The strict check's 11 comes before 13 as add has it, at 1,024 components.
+    list.push((b'a', 11, 13));
     list.extend([(b'r', 11, 10), (b'r', 10, 16), (b'r', 10, 17), (b'r', 16, 17), (b'd', 11, 10)]);
     list
 }
@@ -88,7 +90,7 @@ fn edit_holds(number: u32, case: &Case) -> bool {
     let bytes = edit::span(&case.name, 0, &case.content);
     match number {
         10 => bears.is_none(),
-        13 => list.len() >= 256,
+        13 => list.len() >= 1_024,
         14 => edit::unfit(&case.name),
         15 => bears.is_some(),
         16 => edit::buried(&bytes, region.align),
@@ -107,16 +109,18 @@ fn both() -> Vec<Both> {
 
     let same = Arc::new(many(3, true));
     let few = Arc::new(many(3, false));
-    let full = Arc::new(many(256, false));
+    let full = Arc::new(many(1_024, false));
+    let full_same = Arc::new(many(1_024, true));
     let mut spelled = vec![b'x'; 24];
     spelled[8..16].copy_from_slice(LARCHIVE);
     let mut much = vec![0; 40_000];
     much[8..16].copy_from_slice(LARCHIVE);
     let plenty = vec![0; 40_000];
     let none: &[u8] = b"";
-    let table: [(u8, u32, u32, &Arc<Vec<u8>>, &[u8], &[u8]); 16] = [
+    let table: [(u8, u32, u32, &Arc<Vec<u8>>, &[u8], &[u8]); 17] = [
         (b'a', 11, 14, &same, none, none),
         (b'a', 11, 15, &same, b"c1", none),
+        (b'a', 11, 13, &full_same, b"new", none),
         (b'a', 14, 13, &full, b"a b", none),
         (b'a', 15, 13, &full, b"c7", none),
         (b'a', 13, 16, &full, b"new", &spelled),
@@ -129,7 +133,7 @@ fn both() -> Vec<Both> {
         (b'r', 10, 16, &few, b"new", &spelled),
         (b'r', 10, 17, &few, b"new", &plenty),
         (b'r', 16, 17, &few, b"c1", &much),
-        (b'r', 16, 17, &full, b"c255", &much),
+        (b'r', 16, 17, &full, b"c1023", &much),
         (b'd', 11, 10, &same, b"new", none),
     ];
     for (op, first, second, image, name, content) in table {
@@ -212,6 +216,22 @@ fn bench() -> Vec<Literal> {
     for op in "ard".bytes() {
         let case = Case::new(op, &long, "bench").named(b"cal/13").holding(b"x");
         add(case, "refused\t12\t192\t0", &long);
+    }
+    // An add to 1,023 components is done, and one to 1,024 refused by 13; the other edits are done there. At 1,025 all are refused.
+    let on = |image: Vec<u8>, op: u8, name: &[u8]| Case::new(op, &Arc::new(image), "bench").named(name).numbered(7);
+    for count in [256, 257, 1_023] {
+        add(on(many(count, false), b'a', b"new"), "done\t0", &many_and_new(count));
+    }
+    add(on(many_and_new(1_023), b'a', b"more"), &refusal(13), &many_and_new(1_023));
+    add(on(many(1_024, false), b'a', b"new"), &refusal(13), &many(1_024, false));
+    let (mut replaced, mut removed) = (many(1_024, false), many(1_024, false));
+    put(&mut replaced, 49_152 + 8, &[0, 0, 0, 8]);
+    put(&mut replaced, 49_152 + 40, &[9; 8]);
+    put(&mut removed, 49_152, &[0xFF; 40]);
+    add(on(many(1_024, false), b'r', b"c1023").holding(&[9; 8]), "done\t49152", &replaced);
+    add(on(many(1_024, false), b'd', b"c1023"), "done\t49152", &removed);
+    for op in "ard".bytes() {
+        add(on(many(1_025, false), op, b"c3"), &refusal(13), &many(1_025, false));
     }
     list
 }
@@ -297,7 +317,7 @@ fn edge_names(image: &Arc<Vec<u8>>, cases: &mut Vec<Case>) {
     }
 }
 
-/// Regions in which nothing or just one component fits; and 255, 256 and 257 components.
+/// Regions in which nothing or just one component fits; and about 256 and about 1,024 components.
 fn few_and_many(rng: &mut Rng, cases: &mut Vec<Case>) {
     for size in (0..100).chain([279, 280, 281]) {
         let length = size + 64;
@@ -307,8 +327,9 @@ fn few_and_many(rng: &mut Rng, cases: &mut Vec<Case>) {
         }
         cases.push(Case::new(b'a', &image, "small region").named(&long_name(255)));
     }
-    for count in [255, 256, 257] {
+    for count in [255, 256, 257, 258, 1_023, 1_024, 1_025] {
         let image = Arc::new(many(count, false));
+        let last = format!("c{}", count - 1);
         for (op, name, fill) in [
             (b'a', &b"new"[..], 0),
             (b'a', b"new", 9),
@@ -319,10 +340,17 @@ fn few_and_many(rng: &mut Rng, cases: &mut Vec<Case>) {
             (b'r', b"c9", 9),
             (b'r', b"new", 0),
             (b'd', b"c3", 0),
-            (b'd', b"c254", 0),
+            (b'd', last.as_bytes(), 0),
         ] {
             cases.push(Case::new(op, &image, "crowd").named(name).holding(&vec![1; fill]));
         }
+    }
+    // One is added to 1,023, the next one refused until another is removed.
+    let mut image = Arc::new(many(1_023, false));
+    for (op, name) in [(b'a', "new"), (b'a', "more"), (b'd', "c500"), (b'a', "more"), (b'a', "last"), (b'r', "more")] {
+        let case = Case::new(op, &image, "crowd").named(name.as_bytes());
+        image = Arc::new(edited(&case).1);
+        cases.push(case);
     }
 }
 

@@ -2,7 +2,7 @@
 
 use std::sync::Arc;
 
-use crate::accepted::many;
+use crate::accepted::{many, many_and_new};
 use crate::bench::{long_cal_12, twice_cal_13, CAL_13};
 use crate::bytes::big32;
 use crate::capability::{Batch, Both, Capability, Literal};
@@ -76,12 +76,12 @@ fn strict_pairs() -> Vec<(u32, u32, Arc<Vec<u8>>)> {
     let mut image = vec![0xA5; 1024];
     put(&mut image, 128, LARCHIVE);
     let eight = frame.over(image);
-    // 257 components and such a magic.
-    let mut crowd = many(257, false);
-    put(&mut crowd, 48 * 258, LARCHIVE);
+    // 1,025 components and such a magic.
+    let mut crowd = many(1_025, false);
+    put(&mut crowd, 48 * 1_026, LARCHIVE);
     let mut same = many(3, true);
     put(&mut same, 0, LARCHIVE);
-    vec![(8, 12, Arc::new(eight)), (12, 13, Arc::new(crowd)), (13, 11, Arc::new(many(257, true))), (12, 11, Arc::new(same))]
+    vec![(8, 12, Arc::new(eight)), (12, 13, Arc::new(crowd)), (13, 11, Arc::new(many(1_025, true))), (12, 11, Arc::new(same))]
 }
 
 /// Each of these operations on each of those images, with the name of a component in them.
@@ -147,6 +147,15 @@ fn bench() -> Vec<Literal> {
     add(ask(b'g', &empty), "end\t0\n".into());
     add(ask(b'j', &empty), "none\n".into());
     add(ask(b'c', &empty), "accepted\t0\t0\n".into());
+    // 1,024 components are accepted, as an add to 1,023 leaves them too; 1,025 are not. Equal names are 11 at 1,024 and 13 at 1,025.
+    let places = |count: usize| -> String { (1..=count).map(|index| format!("\t{}", 48 * index)).collect() };
+    for count in [256, 257, 1_023, 1_024] {
+        add(ask(b'c', &Arc::new(many(count, false))), format!("accepted\t{count}\t0{}\n", places(count)));
+    }
+    add(ask(b'c', &Arc::new(many_and_new(1_023))), format!("accepted\t1024\t0\t0{}\n", places(1_023)));
+    add(ask(b'c', &Arc::new(many(1_024, true))), "refused\t11\t0\t0\n".into());
+    add(ask(b'c', &Arc::new(many(1_025, false))), "refused\t13\t0\t0\n".into());
+    add(ask(b'c', &Arc::new(many(1_025, true))), "refused\t13\t0\t0\n".into());
     list
 }
 
@@ -190,23 +199,32 @@ fn buried_in_name(scenes: &mut Vec<Scene>) {
     }
 }
 
-/// About 256 components, some names twice, some magic besides.
+/// About 256 and about 1,024 components, some names twice, some magic besides.
 fn crowds(scenes: &mut Vec<Scene>) {
-    for count in [254, 255, 256, 257, 258, 300] {
+    let mut scene = |image: Vec<u8>, count: usize| {
+        scenes.push(Scene {
+            image: Arc::new(image),
+            numbers: vec![48 * count as u64],
+            names: vec![b"c0".to_vec(), format!("c{}", count - 1).into_bytes()],
+            note: "crowd",
+        });
+    };
+    for count in [255, 256, 257, 258, 1_023, 1_024, 1_025] {
         for twice in [false, true] {
             for besides in [None, Some(0), Some(16 + 48), Some(48 * (count as i64 + 1))] {
                 let mut image = many(count, twice);
                 if let Some(at) = besides {
                     put(&mut image, at, LARCHIVE);
                 }
-                scenes.push(Scene {
-                    image: Arc::new(image),
-                    numbers: vec![48 * count as u64],
-                    names: vec![b"c0".to_vec(), format!("c{}", count - 1).into_bytes()],
-                    note: "crowd",
-                });
+                scene(image, count);
             }
         }
+    }
+    // As many as 65,536 bytes hold with a free place before and after.
+    scene(many(1_362, false), 1_362);
+    // What an add to 256 and to 1,023 leaves.
+    for count in [256, 1_023] {
+        scene(many_and_new(count), count);
     }
 }
 

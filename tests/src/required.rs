@@ -1,5 +1,6 @@
 //! What a whole run must have reached: every operation of the probe's protocol and the listing program, each kind of their answers,
-//! and each refusal that document 01, "Refusal numbers", allows them. No other may come.
+//! and each refusal that document 01, "Refusal numbers", allows them; and what the strict check and the edits answer at the limit of
+//! components, and at the one before request 6. No other may come.
 
 use crate::tally::Tally;
 
@@ -45,6 +46,32 @@ const ROWS: &[Row] = &[
     Row { calls: &["bad case"], kinds: &["bad case", "region", "no answer"], refusals: &[&[2]] },
 ];
 
+/// Numbers of components beside the limit, 1,024, and beside 256, which it is in document 01.
+const BESIDE: [usize; 6] = [256, 257, 258, 1_023, 1_024, 1_025];
+
+/// Outcomes that hang on the number of components: the call, the outcome, and at which of these numbers it must come. At the others it may not.
+const AT: &[(&str, &str, &[usize])] = &[
+    ("c", "accepted", &[256, 257, 258, 1_023, 1_024]),
+    ("c", "refused 13", &[1_025]),
+    ("c", "refused 11", &[256, 257, 258, 1_023, 1_024]),
+    ("a", "done", &[256, 257, 258, 1_023]),
+    ("a", "refused 13", &[1_024, 1_025]),
+    ("r", "done", &[256, 257, 258, 1_023, 1_024]),
+    ("r", "refused 13", &[1_025]),
+    ("d", "done", &[256, 257, 258, 1_023, 1_024]),
+    ("d", "refused 13", &[1_025]),
+];
+
+fn at(kind: &str, count: usize) -> String {
+    format!("{kind} at {count}")
+}
+
+/// How a call came out at one of these numbers; none for another number, and for an outcome that does not hang on it.
+pub fn beside(call: &str, kind: &str, count: usize) -> Option<String> {
+    let hangs = AT.iter().any(|(its, this, _)| *its == call && *this == kind);
+    (hangs && BESIDE.contains(&count)).then(|| at(kind, count))
+}
+
 /// Every call, with every outcome that it must reach.
 pub fn outcomes() -> Vec<(&'static str, String)> {
     let mut list = Vec::new();
@@ -53,6 +80,9 @@ pub fn outcomes() -> Vec<(&'static str, String)> {
             list.extend(row.kinds.iter().map(|kind| (*call, kind.to_string())));
             list.extend(row.refusals.iter().flat_map(|part| *part).map(|number| (*call, format!("refused {number}"))));
         }
+    }
+    for (call, kind, counts) in AT {
+        list.extend(counts.iter().map(|count| (*call, at(kind, *count))));
     }
     list
 }

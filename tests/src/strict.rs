@@ -1,10 +1,10 @@
-//! Document 01, "Components and the two walks": the guarded walk and lookup, and the strict check.
+//! Document 01, "Components and the two walks": the guarded walk and lookup, and the strict check, with the limit of document 02.
 
 use crate::master::Region;
 use crate::walk::{bearers, carries, judge, listing, Component};
 
-/// Most components that the strict check accepts.
-pub const MOST: usize = 256;
+/// Most components that the strict check accepts: 256 in document 01, 1,024 by request 6 of document 02.
+pub const MOST: usize = 1_024;
 
 /// What the guarded walk takes: a component with no later place inside its span that carries the magic.
 pub fn guarded(image: &[u8], region: Region, place: usize) -> Option<Component> {
