@@ -11,7 +11,8 @@ use signature::Found as Signatures;
 use terms::Refusal;
 use terms::Region;
 ghost use mathlib.Core.Path.{_≡_};
-ghost use Prim.Native.Nat.{_<_};
+ghost use Prim.Native.Nat.{_%_, _<_};
+ghost use Rattle.component.specs.Sums.{total};
 ghost use Rattle.terms.specs.declared.Refusal.{Refusal};
 ghost use Rattle.master.specs.Master.{master as masterOf};
 ghost use Rattle.master.specs.declared.Master.the-variants.{Read};
@@ -391,4 +392,13 @@ pub extern "C" fn bench_signatures(image: &[u8]) -> u64
         Signatures::Nothing => refusal_number(terms::refused(27)),
         Signatures::Several => refusal_number(terms::refused(28)),
     }
+}
+
+// The sum of all bytes, as a component's checksum is made of it.
+#[no_mangle]
+pub extern "C" fn bench_sum(bytes: &[u8]) -> u64
+    ensures { λ n. ⌜ n ≡ total (now (bytes .entry)) % 4294967296 ⌝ }
+    ensures kept { λ _. ⌜ now (bytes .exit) ≡ now (bytes .entry) ⌝ }
+{
+    component::sum(bytes) as u64
 }

@@ -133,7 +133,9 @@ fn find(page: &mut Page, f: Found) -> usize {
         Found::At(t) => {
             let h = t.header;
             let ns = [t.place, h.offset, h.len, h.kind as usize, h.named, t.next];
-            output::line(page, 0, output::FOUND, 6, ns)
+            let mut at = output::start(page, 0, output::FOUND, 6, ns);
+            at = output::number(page, at, h.checksum as usize);
+            output::byte(page, at, b'\n')
         }
         Found::Refused(r) => refused(page, 0, r, 0),
     }

@@ -9,9 +9,9 @@ use mathlib.Core.Bool.{true}
 use mathlib.Core.Option.{some, none, Option·some-injective, Option·none-ne-some, Option·some-ne-none}
 use lib.ListN.{length, drop, length-append}
 use Rattle.component.specs.Component.{Component, span, judge}
-use Rattle.walk.specs.Walk.{Entry, carries, nextMagic, onward, plainListing, Place}
+use Rattle.walk.specs.Walk.{Entry, carries, nextMagic, onward, plainListing, Place, Stop}
 use Rattle.walk.proofs.Hunting.{next-none, next-end, next-carries, next-above}
-use Rattle.walk.proofs.Steps.{Stop, onward-stop}
+use Rattle.walk.proofs.Steps.{onward-stop}
 use Rattle.strict.specs.Strict.{strays, refused, decide, verdict}
 use Rattle.strict.proofs.Strays.{straysFrom, lowest, firstStray, plainFrom, strays-from, list-hunt, list-end, from-end, next-place, list-well, onward-behind, first-hunt, first-ill, first-open, first-buried}
 

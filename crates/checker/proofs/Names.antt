@@ -14,7 +14,8 @@ use lib.Seq.{drop-cons}
 use Rattle.number.specs.Number.{le}
 use Rattle.number.specs.Bytes.{eqBytes}
 use Rattle.number.proofs.SameBytes.{eq-true}
-use Rattle.component.specs.Component.{Component, judge, nameOf, bearsName}
+use Rattle.component.specs.Component.{Component, numbers, nameOf, bearsName}
+use Rattle.component.proofs.Judging.{judge-numbers}
 use Rattle.number.specs.Lists.{any, noTwo}
 use Rattle.walk.specs.Walk.{Entry, plainListing}
 use Rattle.lookup.specs.Lookup.{bears}
@@ -116,9 +117,12 @@ apart-before r ps n l (suc i) h e =
 
 -- The places tell the names apart as the listing does.
 
--- Components that the judge finds at their places.
+-- Components whose headers' numbers stand at their places. Where the listing has a component, they do.
 abbrev pub Judged : List ℕ → List Entry → Type 0
-Judged r l = (e : Entry) → List·Memᴰ e l → judge (drop (e .place) r) ≡ some (e .component)
+Judged r l = (e : Entry) → List·Memᴰ e l → numbers (drop (e .place) r) ≡ some (e .component)
+
+pub listed : (r : List ℕ) (a : ℕ) → Judged r (plainListing r a)
+listed r a e m = judge-numbers (drop (e .place) r) (e .component) (given false r a e m .judged)
 
 pub same-any : (r name : List ℕ) (l : List Entry) → Judged r l → any (named r name) (placesOf l) ≡ any (bears name) l
 unfolding any named bears
@@ -133,7 +137,7 @@ same-apart r (e ∷ l) j =
     rw (j e (List·Memᴰ·head refl), same-any r (e .component .name) l k, same-apart r l k)
 
 pub apart-told : (r : List ℕ) (a : ℕ) → apartAt r (placesOf (plainListing r a)) ≡ toldApart (plainListing r a)
-apart-told r a = same-apart r (plainListing r a) (λ e m. given false r a e m .judged)
+apart-told r a = same-apart r (plainListing r a) (listed r a)
 
 -- The digest, word by word: m bytes are left from i on.
 
@@ -184,13 +188,13 @@ digests-listed r a n x y q p s =
     rw (q, p, s) (record {
       stored = simp (length-append, length-map) (omega arith);
       taken = simp (length-append, length-map) (omega arith);
-      each = digests-at r x y l (λ t m. given false r a t m .judged);
+      each = digests-at r x y l (listed r a);
     })
 
 -- Equal names have equal digests: where the digests differ, the names do.
 pub named-not : (r name : List ℕ) (p : ℕ) → (digestOf (nameAt r p) ≡ digestOf name → ⊥) → named r name p ≡ false
 unfolding named
-named-not r name p h = go (judge (drop p r)) h
+named-not r name p h = go (numbers (drop p r)) h
   where
     by : (c : Component) → (digestOf (c .name) ≡ digestOf name → ⊥) → (b : Bool) → eqBytes (c .name) name ≡ b → b ≡ false
     by c k true e = absurd (k (ap digestOf (eq-true (c .name) name e)))

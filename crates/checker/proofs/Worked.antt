@@ -3,19 +3,16 @@ use mathlib.Core.Path.{_≡_, refl}
 use mathlib.Core.List.{[], _∷_, _++_}
 use mathlib.Core.Bool.{true, false}
 use lib.ListN.{replicate}
-use Rattle.number.specs.Number.{be, beBytes}
-use Rattle.number.specs.Bytes.{partOf, eqBytes}
-use Rattle.number.specs.Tests.{all}
+use Rattle.number.specs.Bytes.{partOf}
 use Rattle.number.specs.Lists.{any, keep, noTwo, padded}
 use Rattle.bench_image.specs.BenchImage.{larchive, cal, head, slot0, slot192, region, regionA}
-use Rattle.component.specs.Names.{nameTests, nameFits, beforeZero, fieldTests, fieldFits}
-use Rattle.component.specs.Component.{magic, startsWithMagic, componentOf, headerTests, wellFormed, fields, judge}
 use Rattle.walk.specs.Walk.{placesBelow, places, carries, plain, orElse, first, step, onward, follow, steps, listingFrom}
 use Rattle.lookup.specs.Lookup.{bears}
 use Rattle.terms.specs.Terms.{bytesOf}
 use Rattle.terms.specs.declared.Region.{Region}
 use Rattle.strict.specs.Strict.{limit, takes, stray, strays, refused, accepted, decide, verdict}
 use Rattle.checker.specs.Directory.{noPlaces, directory, verdictIn, placesIn, named}
+use Rattle.component.proofs.Opened.{judging}
 
 twelve : directory limit 64 (refused 12 192) ≡ record { number = 12; place = 256; count = 0; places = replicate 1024 0 }
 unfolding noPlaces
@@ -39,15 +36,15 @@ spans = record { start = 0; end = 256; align = 64 }
 
 as-lent : verdictIn (9 ∷ []) regionA spans ∷ verdictIn (9 ∷ 9 ∷ []) regionA spans ∷ verdictIn (9 ∷ 9 ∷ 9 ∷ []) regionA spans ∷ []
     ≡ refused 13 0 ∷ accepted (0 ∷ 192 ∷ []) ∷ accepted (0 ∷ 192 ∷ []) ∷ []
-unfolding partOf bytesOf beBytes larchive cal head slot0 slot192 region be eqBytes all nameTests nameFits beforeZero fieldTests fieldFits magic startsWithMagic componentOf headerTests wellFormed fields judge any keep placesBelow places carries plain orElse first step onward follow steps listingFrom bears takes stray strays noTwo decide verdict
+unfolding judging partOf bytesOf larchive cal head slot0 slot192 region any keep placesBelow places carries plain orElse first step onward follow steps listingFrom bears takes stray strays noTwo decide verdict
 as-lent = refl
 
 -- The component at a place bears its name, no beginning of it, and none that goes on behind it; where none stands, not even the empty one.
 whose : named regionA (cal 0x33) 192 ∷ named regionA (cal 0x32) 192 ∷ named regionA (0x63 ∷ []) 192 ∷ []
     ≡ true ∷ false ∷ false ∷ []
-unfolding beBytes larchive cal head slot0 slot192 region be eqBytes all nameTests nameFits beforeZero fieldTests fieldFits magic startsWithMagic componentOf headerTests wellFormed fields judge named
+unfolding judging larchive cal head slot0 slot192 region named
 whose = refl
 
 whose-not : named regionA (cal 0x33 ++ (0 ∷ [])) 192 ∷ named regionA [] 192 ∷ named regionA [] 64 ∷ [] ≡ false ∷ false ∷ false ∷ []
-unfolding beBytes larchive cal head slot0 slot192 region be eqBytes all nameTests nameFits beforeZero fieldTests fieldFits magic startsWithMagic componentOf headerTests wellFormed fields judge named
+unfolding judging larchive cal head slot0 slot192 region named
 whose-not = refl

@@ -6,7 +6,7 @@ use mathlib.Core.Bool.{Bool, true, false, cond}
 use mathlib.Core.Logic.{_⊎_}
 use lib.ListN.{length, getD, take, drop, set, replicate}
 use lib.Dec.{eqb}
-use Rattle.component.specs.Component.{judge, nameOf, bearsName}
+use Rattle.component.specs.Component.{numbers, nameOf, bearsName}
 use Rattle.number.specs.Number.{le}
 use Rattle.number.specs.Lists.{any, noTwo, padded}
 use Rattle.walk.specs.Walk.{Entry, plainListing}
@@ -45,9 +45,9 @@ abbrev pub placesIn : List ℕ → Verdict → List ℕ
 placesIn d (refused n p) = replicate (length d) 0
 placesIn d (accepted ps) = ps ++ drop (length ps) d
 
--- The name of the component at the place p; empty where none stands.
+-- The name of the component at the place p, by its header's numbers: where the listing has one there, its sum was taken already. Empty where none stands.
 abbrev pub nameAt : List ℕ → ℕ → List ℕ
-nameAt r p = nameOf (judge (drop p r))
+nameAt r p = nameOf (numbers (drop p r))
 
 -- A digest taken further by a word of eight bytes, its two halves weighed apart; it stays below 2^32.
 abbrev pub stirred : ℕ → ℕ → ℕ
@@ -88,9 +88,9 @@ pub record Passed (r : List ℕ) (a : ℕ) (d d′ e e′ : List ℕ) (s : Pass)
   pub clean : s .astray ≡ false → (strays r a ≡ []) × (s .count ≡ length (plainListing r a))
       × (d′ ≡ fill entryPlace d 0 (plainListing r a)) × (e′ ≡ fill entryDigest e 0 (plainListing r a))
 
--- The component at the place p bears the name.
+-- The component at the place p, by its header's numbers, bears the name.
 unfoldable pub named : List ℕ → List ℕ → ℕ → Bool
-named r name p = bearsName name (judge (drop p r))
+named r name p = bearsName name (numbers (drop p r))
 
 -- No two of the components at these places have the same name.
 abbrev pub apartAt : List ℕ → List ℕ → Bool

@@ -109,17 +109,21 @@ fn astray(place: usize) -> Pass
     }
 }
 
-// One pass over the region's bytes. Each place is compared with the magic once, and each header judged once.
+// One pass over the region's bytes. Each place is compared with the magic once, and each header judged once. The sum is taken before a later magic is
+// looked for: it decides which of the two places is told, and the pass ends there.
 fn pass_over(r: &[u8], align: usize, places: &mut [usize], digests: &mut [u32]) -> Pass
     ensures { λ s. ⌜ Passed (now (r .entry)) align (now (places .entry)) (now (places .exit)) (now (digests .entry)) (now (digests .exit)) s ⌝ }
 {
     let mut n = 0;
     let mut p = walk::next_magic(r, align, 0, r.len());
     while p < r.len() {
-        let j = component::fields(&r[p..]);
+        let j = component::numbers(&r[p..]);
         match j {
             Judged::WellFormed(h) => {
                 let e = p + (h.offset + h.len);
+                if !component::sum_fits(&r[p..e]) {
+                    return astray(p);
+                }
                 let q = walk::next_after(r, align, p, e);
                 if q < e {
                     return astray(q);
@@ -145,7 +149,7 @@ fn pass_over(r: &[u8], align: usize, places: &mut [usize], digests: &mut [u32]) 
 fn name_at(r: &[u8], p: usize) -> &[u8]
     ensures { λ n. ⌜ now n ≡ nameAt (now (r .entry)) p ⌝ }
 {
-    component::name(number::rest(r, p))
+    component::bare_name(number::rest(r, p))
 }
 
 // One of the digests from `from` up to `to` is `asked`. The loop goes on where one is found, so that the compiler can compare several at once.

@@ -20,7 +20,7 @@ use Rattle.master.proofs.Facts.{Known, known, same-region}
 use Rattle.strict.specs.Strict.{limit, Accepted}
 use Rattle.number.proofs.Tested.{both-true}
 use Rattle.strict.specs.Slots.{start, within, hit}
-use Rattle.edit.specs.Edit.{Bytes, spanBytes, putIn, instead, without, add, replace, remove}
+use Rattle.edit.specs.Edit.{Bytes, Put, spanBytes, putIn, instead, without, add, replace, remove}
 use Rattle.edit.proofs.Outcomes.{Finds, Others, Added, Replaced, Removed}
 use Rattle.edit.proofs.Theorems.{add-accepted, add-done}
 use Rattle.edit.proofs.Exactly.{held-exactly, Undone, add-undone}
@@ -89,6 +89,16 @@ module _ (i : List ℕ) (g : Region) (read : master i ≡ Read g) (y i′ : List
 
   read′ : master i′ ≡ Read g
   read′ = same-region i i′ g read (ar .alike) (ar .after)
+
+  -- What stands in the region's bytes stands in the image.
+  put-there : (p : ℕ) (s : List ℕ) → Put (bytesOf i′ g) p s → Put i′ (g .start + p) s
+  put-there p s (h, at) =
+      let l = bytes-length i g read i′ (ar .alike) in (
+        omega (arith, l, facts .forward, facts .inside, ar .alike),
+        λ k b.
+            let e : g .start + p + k ≡ g .start + (p + k) = omega arith in
+            rw e (sym (bytes-at i g read i′ (p + k) (ar .alike) (omega arith))) ∙ at k b,
+      )
 
   -- A lookup of the region's bytes that answers as before does so on the image.
   same-lookup : (w : Bool) (n : List ℕ) → lookupOf w (bytesOf i′ g) (g .align) n ≡ lookupOf w (bytesOf i g) (g .align) n
@@ -215,6 +225,7 @@ module _ (i : List ℕ) (g : Region) (read : master i ≡ Read g) where
         go p acc a u = record {
           leaves = leaves i g read _ i₁ ar₁ name p i₁ (a .accepted) (a .others) (λ k f. sym (a .slot .rest k f));
           there = there i g read _ i₁ ar₁ (entryAt p name kind content) (a .finds);
+          written = put-there i g read _ i₁ ar₁ p (spanBytes name kind content) (a .written);
           listed = listed;
           free = (
             p,
@@ -255,6 +266,7 @@ module _ (i : List ℕ) (g : Region) (read : master i ≡ Read g) where
         kind = d .old .component .kind;
         was = (takenAt i g (d .old), rw (read, d .was), ap (λ (m : ℕ). g .start + m) (d .there), refl);
         there = there i g read _ _ ar₂ (entryAt p name (d .old .component .kind) content) (d .finds);
+        written = put-there i g read _ _ ar₂ p (spanBytes name (d .old .component .kind) content) (d .written);
         listed = listed;
         ones = λ j k l. ones-there i g read _ _ ar₂ i p (p + length (spanBytes name (d .old .component .kind) content)) (d .ones) j k (omega arith);
       }

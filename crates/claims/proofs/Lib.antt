@@ -4,6 +4,7 @@ pub mod Spoiling
 pub mod Accepting
 pub mod Editing
 pub mod Edits
+pub mod Sums
 pub mod Plans
 pub mod WorkedPlans
 pub mod Refusing

@@ -5,12 +5,9 @@ use mathlib.Core.Bool.{Bool, true, false}
 use mathlib.Core.List.{List, [], _∷_, _++_}
 use lib.ListN.{replicate}
 use lib.Count.{ones, onesIn}
-use Rattle.number.specs.Number.{be, le, beBytes, leBytes}
-use Rattle.number.specs.Bytes.{partOf, eqBytes, splice}
-use Rattle.number.specs.Tests.{all}
+use Rattle.number.specs.Number.{le, beBytes, leBytes}
+use Rattle.number.specs.Bytes.{partOf, splice}
 use Rattle.number.specs.Lists.{any, keep, padded, noTwo}
-use Rattle.component.specs.Names.{nameTests, nameFits, beforeZero, fieldTests, fieldFits}
-use Rattle.component.specs.Component.{magic, startsWithMagic, componentOf, headerTests, wellFormed, fields, judge}
 use Rattle.walk.specs.Walk.{placesBelow, places, carries, buried, plain, unless, guarded, orElse, first, step, onward, follow, steps, listingFrom}
 use Rattle.lookup.specs.Lookup.{bears, foremost, only}
 use Rattle.terms.specs.Refusals.{lengthFits}
@@ -20,7 +17,7 @@ use Rattle.strict.specs.Strict.{takes, stray, strays, decide, verdict}
 use Rattle.strict.specs.Slots.{start}
 use Rattle.checker.specs.Directory.{noPlaces}
 use Rattle.checker.specs.Directory.{refusal as refusedDirectory}
-use Rattle.edit.specs.Edit.{fieldSize, headerBytes, fieldBytes, spanBytes, buries, runs, lowest, slotOf, filled, adding, renewing, clearing, carriedOut, add, replace, remove}
+use Rattle.edit.specs.Edit.{fieldSize, headerBytes, fieldBytes, stating, sumFor, spanBytes, buries, runs, lowest, slotOf, filled, adding, renewing, clearing, carriedOut, add, replace, remove}
 use Rattle.editor.specs.declared.Edited.{Edited}
 use Rattle.editor.specs.declared.Edited.the-variants.{Done}
 use Rattle.editor.specs.declared.Edited.the-variants.{Refused as EditRefused}
@@ -35,10 +32,11 @@ use Rattle.load.specs.Fits.{loadTests}
 use Rattle.stage.specs.Stage.{stageTests, stageAnswer, stageOf, stageIn}
 use Rattle.payload.specs.Payload.{payloadTests, planOf, refusedPayload, payloadAnswer, payloadOf, payloadIn}
 use Rattle.planning.specs.Planning.{stage, payload}
+use Rattle.component.proofs.Opened.{judging}
 
 -- What is computed below.
 unfoldable opened : ℕ
-unfolding ones onesIn be le beBytes leBytes partOf eqBytes splice all any keep padded noTwo nameTests nameFits beforeZero fieldTests fieldFits magic startsWithMagic componentOf headerTests wellFormed fields judge placesBelow places carries buried plain unless guarded orElse first step onward follow steps listingFrom bears foremost only lengthFits bytesOf headerAt addressFits bootblockFits alignFits offsetFits tests refusal master takes stray strays decide verdict start fieldSize headerBytes fieldBytes spanBytes buries runs lowest slotOf filled adding renewing clearing carriedOut add replace remove stepFits stepBy fromPlace noPlaces
+unfolding judging ones onesIn le leBytes partOf splice any keep padded noTwo placesBelow places carries buried plain unless guarded orElse first step onward follow steps listingFrom bears foremost only lengthFits bytesOf headerAt addressFits bootblockFits alignFits offsetFits tests refusal master takes stray strays decide verdict start fieldSize headerBytes fieldBytes stating sumFor spanBytes buries runs lowest slotOf filled adding renewing clearing carriedOut add replace remove stepFits stepBy fromPlace noPlaces
 opened = 0
 
 -- And for plans.
@@ -46,11 +44,15 @@ unfoldable planning : ℕ
 unfolding stageTests loadTests stageAnswer stageOf stageIn payloadTests planOf refusedPayload payloadAnswer payloadOf payloadIn
 planning = 0
 
--- A component of type 0x50 with the offset 40, whose name is the letter c, and one byte of content; 64 bytes with what follows it.
+-- A component of type 0x50 with the offset 40, whose name is the letter c, stating a sum, and one byte of content; 64 bytes with what follows it.
+abbrev summed : ℕ → ℕ → List ℕ
+summed c sum =
+    0x4C ∷ 0x41 ∷ 0x52 ∷ 0x43 ∷ 0x48 ∷ 0x49 ∷ 0x56 ∷ 0x45 ∷ 0 ∷ 0 ∷ 0 ∷ 1 ∷ 0 ∷ 0 ∷ 0 ∷ 0x50
+    ∷ (beBytes 4 sum ++ (0 ∷ 0 ∷ 0 ∷ 40 ∷ c ∷ (replicate 15 0 ++ (7 ∷ replicate 23 0xFF))))
+
+-- The same with no sum.
 abbrev component : ℕ → List ℕ
-component c =
-    0x4C ∷ 0x41 ∷ 0x52 ∷ 0x43 ∷ 0x48 ∷ 0x49 ∷ 0x56 ∷ 0x45 ∷ 0 ∷ 0 ∷ 0 ∷ 1 ∷ 0 ∷ 0 ∷ 0 ∷ 0x50 ∷ 0 ∷ 0 ∷ 0 ∷ 0 ∷ 0 ∷ 0 ∷ 0 ∷ 40
-    ∷ c ∷ (replicate 15 0 ++ (7 ∷ replicate 23 0xFF))
+component c = summed c 0
 
 -- An image of 228 bytes: 64 bytes before the region, two slots of 64 bytes, the master header and P. The second slot's bytes and offset are given.
 abbrev image : List ℕ → ℕ → List ℕ
@@ -61,16 +63,19 @@ image slot offset =
     ++ (beBytes 4 0x4F524243 ++ (beBytes 4 0x31313131 ++ (beBytes 4 228 ++ (beBytes 4 36 ++ (beBytes 4 64 ++ (beBytes 4 offset
     ++ (replicate 8 0xFF ++ leBytes 4 0xFFFFFFDC)))))))))
 
--- The second slot has a component b; a magic with no well-formed header; a component a.
+-- The second slot has a component b, with its sum, 816; a magic with no well-formed header; a component a; a component b with another sum.
 
 abbrev fine : List ℕ
-fine = image (component 0x62) 64
+fine = image (summed 0x62 816) 64
 
 abbrev untaken : List ℕ
 untaken = image (0x4C ∷ 0x41 ∷ 0x52 ∷ 0x43 ∷ 0x48 ∷ 0x49 ∷ 0x56 ∷ 0x45 ∷ replicate 56 0xFF) 64
 
 abbrev alike : List ℕ
 alike = image (component 0x61) 64
+
+abbrev wrong : List ℕ
+wrong = image (summed 0x62 817) 64
 
 -- Refused by 8; and with a magic at a place of a region from 65 on, which 12 would be given for.
 
@@ -138,6 +143,19 @@ twice : (findOf true alike (0x61 ∷ []) ≡ FoundRefused (refusedBy 11)) × (co
     × (contentFoundBy false alike (0x61 ∷ []) ≡ 7 ∷ [])
 unfolding opened
 twice = (refl, refl, refl)
+
+-- Request 5: b with a wrong sum is found by neither lookup and has no parts at its place; neither walk lists it, and the strict check and the edits
+-- refuse with its place.
+summed-wrong : (strictCheck wrong ≡ refusedDirectory 1024 12 128) × (added wrong [] 0x50 [] .answer ≡ twelve) × (replaced wrong (0x61 ∷ []) [] .answer ≡ twelve)
+    × (removed wrong (0x61 ∷ []) .answer ≡ twelve) × (nameAt wrong 128 ≡ []) × (contentAt wrong 128 ≡ [])
+unfolding opened
+summed-wrong = (refl, refl, refl, refl, refl, refl)
+
+unlisted : (w : Bool) → (findOf w wrong (0x62 ∷ []) ≡ FoundRefused (refusedBy 10)) × (contentFoundBy w wrong (0x62 ∷ []) ≡ []) × (stepOf w wrong 128 ≡ NoneLeft)
+    × (contentFoundBy w wrong (0x61 ∷ []) ≡ 7 ∷ [])
+unfolding opened
+unlisted true = (refl, refl, refl, refl)
+unlisted false = (refl, refl, refl, refl)
 
 -- Plans: 8 before 10, and 11 before 18.
 planned : (stage unaligned [] .number ≡ 8) × (payload unaligned [] .number ≡ 8) × (stage alike (0x61 ∷ []) .number ≡ 11) × (payload alike (0x61 ∷ []) .number ≡ 11)

@@ -4,11 +4,8 @@ use mathlib.Core.Path.{_≡_, refl}
 use mathlib.Core.List.{List, [], _∷_, _++_}
 use lib.ListN.{replicate}
 use lib.Count.{ones, onesIn}
-use Rattle.number.specs.Number.{be, le, beBytes, leBytes}
-use Rattle.number.specs.Bytes.{partOf, eqBytes}
-use Rattle.number.specs.Tests.{all}
-use Rattle.component.specs.Names.{nameTests, nameFits, beforeZero, fieldTests, fieldFits}
-use Rattle.component.specs.Component.{magic, startsWithMagic, componentOf, headerTests, wellFormed, fields, judge}
+use Rattle.number.specs.Number.{le, beBytes, leBytes}
+use Rattle.number.specs.Bytes.{partOf}
 use Rattle.number.specs.Lists.{any, keep, padded}
 use Rattle.walk.specs.Walk.{placesBelow, places, carries, buried, unless, guarded, orElse, first, step, onward, follow, steps, listingFrom}
 use Rattle.lookup.specs.Lookup.{bears, only}
@@ -22,6 +19,7 @@ use Rattle.load.proofs.Bench.{named}
 use Rattle.stage.proofs.Worked.{header}
 use Rattle.payload.proofs.Worked.{code, entry}
 use Rattle.planning.specs.Planning.{stage, payload}
+use Rattle.component.proofs.Opened.{judging}
 
 -- A stage named s at 0 and a payload named p at 128; the region ends at 256, where the master header stands, and P after it. P's lowest byte is given.
 abbrev image : ℕ → List ℕ
@@ -48,5 +46,5 @@ worked-plans :
     × (payload (image 0xDC) [] .number ≡ 10)
     × (stage (image 0xDC) (0x70 ∷ []) .number ≡ 18)
     × (payload (image 0xDC) (0x73 ∷ []) .number ≡ 18)
-unfolding ones onesIn be le beBytes leBytes partOf eqBytes all nameTests nameFits beforeZero fieldTests fieldFits magic startsWithMagic componentOf headerTests wellFormed fields judge any keep placesBelow places carries buried unless guarded orElse first step onward follow steps listingFrom bears only bytesOf lengthFits headerAt addressFits bootblockFits alignFits offsetFits tests refusal master sourceFits lenFits targetFits loadTests stageTests stageAnswer stageOf stageIn segmentAt bssTests paramsTests typeTests recordTests endsBefore apart clear turnTests segmentsFrom payloadTests padded planOf refusedPayload payloadAnswer payloadOf payloadIn
+unfolding judging ones onesIn le leBytes partOf any keep placesBelow places carries buried unless guarded orElse first step onward follow steps listingFrom bears only bytesOf lengthFits headerAt addressFits bootblockFits alignFits offsetFits tests refusal master sourceFits lenFits targetFits loadTests stageTests stageAnswer stageOf stageIn segmentAt bssTests paramsTests typeTests recordTests endsBefore apart clear turnTests segmentsFrom payloadTests padded planOf refusedPayload payloadAnswer payloadOf payloadIn
 worked-plans = (refl, refl, refl, refl, refl, refl, refl, refl)

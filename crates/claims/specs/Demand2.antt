@@ -4,7 +4,7 @@ use Prim.Native.Nat.{ℕ, _+_, _≤_, _<_}
 use mathlib.Core.Path.{_≡_}
 use mathlib.Core.List.{List, List·Memᴰ}
 use mathlib.Core.Bool.{Bool, true, false}
-use lib.ListN.{length, getD}
+use lib.ListN.{length, getD, drop}
 use lib.Dec.{eqb}
 use Rattle.walk.specs.Walk.{Entry, end, Place}
 use Rattle.walk.specs.declared.Taken.{Taken}
@@ -12,7 +12,8 @@ use Rattle.terms.specs.Terms.{bytesOf}
 use Rattle.terms.specs.declared.Region.{Region}
 use Rattle.master.specs.Master.{master}
 use Rattle.master.specs.declared.Master.the-variants.{Read}
-use Rattle.edit.specs.Edit.{spanBytes, putIn, instead, without, made, Free}
+use Rattle.component.specs.Table.{checksum, sumOf}
+use Rattle.edit.specs.Edit.{spanBytes, putIn, instead, without, made, Free, Put}
 use Rattle.editor.specs.declared.Edited.the-variants.{Done}
 use Rattle.region.specs.declared.Found.the-variants.{At}
 use Rattle.reading.specs.Reading.{strictCheck}
@@ -42,6 +43,8 @@ pub record AddDone (i : List ℕ) (g : Region) (name : List ℕ) (kind : ℕ) (c
   pub leaves : Leaves i g name p i′ i′
   -- "The new content is found under its name": by both lookups, at the place p, with the type and the lengths.
   pub there : (w : Bool) → Gives w i′ (entryAt p name kind content)
+  -- The bytes of the component stand there, with its sum.
+  pub written : Put i′ p (spanBytes name kind content)
   -- Both listings are the old ones with the component put in.
   pub listed : (w : Bool) → entries w i′ g ≡ putIn (entryAt p name kind content) (entries w i g)
   -- "Add uses the lowest place at which the component fits a free run" (document 01): p has so many free bytes, and no place below p has.
@@ -60,10 +63,17 @@ pub record ReplaceDone (i : List ℕ) (g : Region) (name content : List ℕ) (p 
   pub was : (t : Taken) × (findOf true i name ≡ At t) × (t .place ≡ p) × (t .header .kind ≡ kind)
   -- "The new content is found under its name": by both lookups, at the place p, with the type and the lengths.
   pub there : (w : Bool) → Gives w i′ (entryAt p name kind content)
+  -- The bytes of the component stand there, with its sum.
+  pub written : Put i′ p (spanBytes name kind content)
   -- Both listings are the old ones with the one component changed.
   pub listed : (w : Bool) → entries w i′ g ≡ instead (entryAt p name kind content) (entries w i g)
   -- "After the written span, every byte to the next component's start or the region's end is 0xFF" (document 01).
   pub ones : (j : ℕ) → inSlots (λ q. eqb q p) i g j ≡ true → p + length (spanBytes name kind content) ≤ j → getD i′ j 0 ≡ 255
+
+-- "Edits write the sum" (document 02, request 5): the n bytes from p on state their sum, no bit of which is lost; and it is not 0, which would state none.
+pub record StatesSum (i : List ℕ) (p n : ℕ) : Type 0 where
+  pub exact : checksum (drop p i) ≡ sumOf (drop p i) n
+  pub stated : 0 < checksum (drop p i)
 
 -- The component at p was removed.
 pub record RemoveDone (i : List ℕ) (g : Region) (name : List ℕ) (p : ℕ) (i′ : List ℕ) : Type 0 where

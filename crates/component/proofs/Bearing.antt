@@ -11,65 +11,57 @@ use lib.Dec.{eqb}
 use borrow.Author.Tests.{eqb-true, eq-eqb}
 use Rattle.number.specs.Bytes.{partOf, eqBytes}
 use Rattle.number.proofs.SameBytes.{eq-true, eq-refl}
-use Rattle.component.specs.Component.{Component, judge, judged, headerOf, nameOf, bearsName}
+use Rattle.component.specs.Component.{Component, numbers, judged, headerOf, nameOf, bearsName}
 use Rattle.component.specs.declared.Header.{Header}
 use Rattle.component.specs.declared.Judged.the-variants.{WellFormed, IllFormed}
-use Rattle.component.proofs.Judging.{judged-some, judged-none, part-name}
-use Rattle.component.proofs.Exactly.{judge-exactly}
-
--- The byte behind the name is zero, and the name has 255 bytes at most.
-name-ends : (s : List ℕ) (c : Component) → judge s ≡ some c → (getD s (24 + length (c .name)) 0 ≡ 0) × (length (c .name) ≤ 255)
-name-ends s c e =
-    let (n, w, q) = judge-exactly s c .0 e in
-    let long : n ≤ length (drop 24 s) = omega (arith, length-drop 24 s, w .in-field, w .span-fits) in
-    let m : length (c .name) ≡ n = ap (λ (x : Component). length (x .name)) q ∙ length-take-le n _ long in
-    (ap (λ (k : ℕ). getD s (24 + k) 0) m ∙ w .zeros n (omega arith) (w .in-field), omega (arith, m, w .name-most))
+use Rattle.component.proofs.Judging.{judged-some, judged-none, part-bare}
+use Rattle.component.proofs.Exactly.{numbers-ends}
 
 module _ (s name : List ℕ) where
   -- A component that bears the name has it in its field, and a zero behind it.
-  borne : (c : Component) → judge s ≡ some c → eqBytes (c .name) name ≡ true → (partOf s 24 (length name) ≡ name) × (getD s (24 + length name) 0 ≡ 0)
+  borne : (c : Component) → numbers s ≡ some c → eqBytes (c .name) name ≡ true → (partOf s 24 (length name) ≡ name) × (getD s (24 + length name) 0 ≡ 0)
   borne c e b =
       let q = eq-true (c .name) name b in (
-        subst (λ (x : List ℕ). partOf s 24 (length x) ≡ x) q (part-name s (headerOf c) (ap judged e) ∙ ap nameOf e),
-        subst (λ (x : List ℕ). getD s (24 + length x) 0 ≡ 0) q (name-ends s c e .0),
+        subst (λ (x : List ℕ). partOf s 24 (length x) ≡ x) q (part-bare s (headerOf c) (ap judged e) ∙ ap nameOf e),
+        subst (λ (x : List ℕ). getD s (24 + length x) 0 ≡ 0) q (numbers-ends s c e .0),
       )
 
   -- So where a fact that it brings does not hold, none does.
-  unborne : ((c : Component) → judge s ≡ some c → eqBytes (c .name) name ≡ true → ⊥) → false ≡ bearsName name (judge s)
-  unborne h = go (judge s) refl
+  unborne : ((c : Component) → numbers s ≡ some c → eqBytes (c .name) name ≡ true → ⊥) → false ≡ bearsName name (numbers s)
+  unborne h = go (numbers s) refl
     where
-      by : (c : Component) → judge s ≡ some c → (b : Bool) → eqBytes (c .name) name ≡ b → false ≡ b
+      by : (c : Component) → numbers s ≡ some c → (b : Bool) → eqBytes (c .name) name ≡ b → false ≡ b
       by c e false q = refl
       by c e true q = absurd (h c e q)
 
-      go : (o : Option Component) → judge s ≡ o → false ≡ bearsName name o
+      go : (o : Option Component) → numbers s ≡ o → false ≡ bearsName name o
       go none e = refl
       go (some c) e = by c e (eqBytes (c .name) name) refl
 
-  pub too-long : 255 < length name → false ≡ bearsName name (judge s)
-  too-long h = unborne (λ c e b. omega (arith, h, ap length (eq-true (c .name) name b), name-ends s c e .1))
+  pub too-long : 255 < length name → false ≡ bearsName name (numbers s)
+  too-long h = unborne (λ c e b. omega (arith, h, ap length (eq-true (c .name) name b), numbers-ends s c e .1))
 
-  pub other-field : eqBytes (partOf s 24 (length name)) name ≡ false → false ≡ bearsName name (judge s)
+  pub other-field : eqBytes (partOf s 24 (length name)) name ≡ false → false ≡ bearsName name (numbers s)
   other-field h = unborne (λ c e b. true≢false (sym (eq-refl name) ∙ ap (λ (x : List ℕ). eqBytes x name) (sym (borne c e b .0)) ∙ h))
 
-  pub longer-name : (getD s (24 + length name) 0 ≡ 0 → ⊥) → false ≡ bearsName name (judge s)
+  pub longer-name : (getD s (24 + length name) 0 ≡ 0 → ⊥) → false ≡ bearsName name (numbers s)
   longer-name h = unborne (λ c e b. h (borne c e b .1))
 
-  pub ill-named : judged (judge s) ≡ IllFormed → false ≡ bearsName name (judge s)
-  ill-named e = rw (judged-none (judge s) e)
+  pub ill-named : judged (numbers s) ≡ IllFormed → false ≡ bearsName name (numbers s)
+  ill-named e = rw (judged-none (numbers s) e)
 
   -- Where the field begins with the name, the lengths tell.
-  pub as-long : eqBytes (partOf s 24 (length name)) name ≡ true → (h : Header) → judged (judge s) ≡ WellFormed h
-      → eqb (h .named) (length name) ≡ bearsName name (judge s)
-  as-long p h e = let (c, q, r) = judged-some (judge s) h e in go c q r (eqb (h .named) (length name)) refl
+  pub as-long : eqBytes (partOf s 24 (length name)) name ≡ true → (h : Header) → judged (numbers s) ≡ WellFormed h
+      → eqb (h .named) (length name) ≡ bearsName name (numbers s)
+  as-long p h e = let (c, q, r) = judged-some (numbers s) h e in go c q r (eqb (h .named) (length name)) refl
     where
-      go : (c : Component) → judge s ≡ some c → headerOf c ≡ h → (b : Bool) → eqb (h .named) (length name) ≡ b → b ≡ bearsName name (judge s)
+      go : (c : Component) → numbers s ≡ some c → headerOf c ≡ h → (b : Bool) → eqb (h .named) (length name) ≡ b → b ≡ bearsName name (numbers s)
       go c q r true l =
-          let k : partOf s 24 (length name) ≡ c .name = ap (partOf s 24) (sym (eqb-true (h .named) (length name) l)) ∙ part-name s h e ∙ ap nameOf q in
+          let k : partOf s 24 (length name) ≡ c .name = ap (partOf s 24) (sym (eqb-true (h .named) (length name) l)) ∙ part-bare s h e ∙ ap nameOf q in
           rw (q, ← k) (sym p)
       go c q r false l = unborne (λ d f b. differ d f b)
         where
-          differ : (d : Component) → judge s ≡ some d → eqBytes (d .name) name ≡ true → ⊥
+          differ : (d : Component) → numbers s ≡ some d → eqBytes (d .name) name ≡ true → ⊥
           differ d f b =
               let m : headerOf d ≡ h = (cc) in
               let n : h .named ≡ length name = sym (ap (λ (x : Header). x .named) m) ∙ ap length (eq-true (d .name) name b) in

@@ -4,22 +4,25 @@ use native.Mathlib.Nat.{div-add-mod', mul-mod-left}
 use native.Mathlib.Omega.{arith}
 use mathlib.Core.Path.{_≡_, refl, sym, ap, subst, _∙_}
 use mathlib.Core.Bool.{Bool, true, false, cond, false≢true}
-use mathlib.Core.List.{List, [], _∷_}
-use mathlib.Core.Logic.{_↔_}
+use mathlib.Core.List.{List, [], _∷_, _++_}
+use mathlib.Core.Logic.{_⊎_, inl, inr, _↔_}
 use mathlib.Core.Option.{Option, some, none, Option·none-ne-some}
 use lib.ListN.{length, take, drop, getD, length-take, length-drop}
-use lib.Seq.{length-take-le, take-take, getD-take, getD-drop}
+use lib.Seq.{length-take-le, take-take, take-suc, take-add, drop-at, getD-take, getD-drop}
 use lib.Dec.{leb, eqb}
-use borrow.Author.Tests.{leb-true, le-leb, ltb-true, lt-ltb, eqb-true, eq-eqb, ne-eqb}
+use borrow.Author.Tests.{leb-true, le-leb, lt-leb, ltb-true, lt-ltb, le-ltb, eqb-true, eq-eqb, ne-eqb}
 use Rattle.number.specs.Tests.{all}
 use Rattle.number.specs.Letters.{isPrintable}
+use Rattle.number.proofs.Digits.{be-same}
 use Rattle.number.proofs.Passing.{passes}
 use Rattle.number.proofs.SameBytes.{eq-true, eq-refl}
 use Rattle.component.specs.Names.{isZero, nameTests, nameFits, beforeZero, fieldTests, fieldFits}
-use Rattle.component.specs.Component.{Component, magic, startsWithMagic, nameField, componentOf, judge}
-use Rattle.component.specs.Table.{offset, letter, WellFormedHeader, component}
+use Rattle.component.specs.Sums.{checksumOf, total, unstated, spanSum, sumFits}
+use Rattle.component.specs.Component.{Component, span, magic, startsWithMagic, nameField, componentOf, numbers, headed, judge}
+use Rattle.component.specs.Table.{len, offset, checksum, letter, counted, sumOf, WellFormedHeader, component}
 use Rattle.component.proofs.Naming.{before-take}
-use Rattle.component.proofs.Judging.{Formed, formed, unformed}
+use Rattle.component.proofs.Summing.{total-append, total-unstated}
+use Rattle.component.proofs.Judging.{Formed, formed, unformed, numbers-read, cond-some, summedOf, judge-magic, judge-numbers, judge-headed, headed-numbers, headed-fits, headed-read}
 
 -- A test on every byte, by index.
 
@@ -119,6 +122,91 @@ module _ (s : List ℕ) (long : offset s ≤ length s) where
   nth : (j : ℕ) → 24 + j < offset s → getD (nameField s) j 0 ≡ letter s j
   nth j h = getD-take (offset s - 24) (drop 24 s) j 0 (omega arith) ∙ getD-drop 24 s j 0
 
+-- The byte behind a name is zero, and a name has 255 bytes at most.
+pub numbers-ends : (s : List ℕ) (c : Component) → numbers s ≡ some c → (getD s (24 + length (c .name)) 0 ≡ 0) × (length (c .name) ≤ 255)
+unfolding componentOf
+numbers-ends s c e = let (least, fits, named, read) = numbers-read s c e in
+    subst (λ (x : Component). (getD s (24 + length (x .name)) 0 ≡ 0) × (length (x .name) ≤ 255)) read (ends (omega (arith, fits)) (fit-field (nameField s) named))
+  where
+    n : ℕ
+    n = length (beforeZero (nameField s))
+
+    ends : offset s ≤ length s → Field (nameField s) n → (getD s (24 + n) 0 ≡ 0) × (n ≤ 255)
+    ends o d = let l = field-length s o in (sym (nth s o n (omega (arith, d .inside))) ∙ d .zeros n (omega arith) (d .inside), d .most)
+
+-- The sum, byte by byte.
+
+counted-here : (s : List ℕ) (j : ℕ) → (j < 16) ⊎ (20 ≤ j) → counted s j ≡ getD s j 0
+counted-here s j (inl h) = rw (lt-leb 16 j h)
+counted-here s j (inr h) = rw (le-leb 16 j (omega arith), le-ltb j 20 h)
+
+sum-before : (s : List ℕ) (n : ℕ) → n ≤ 16 → n ≤ length s → sumOf s n ≡ total (take n s)
+unfolding sumOf total
+sum-before s zero h l = refl
+sum-before s (suc n) h l =
+    let e = sum-before s n (omega arith) (omega arith) in
+    rw (counted-here s n (inl (omega arith)), e, take-suc s n 0 (omega arith), total-append (take n s) (getD s n 0 ∷ [])) (omega arith)
+
+-- The checksum's own bytes count as zero.
+over-checksum : (s : List ℕ) → sumOf s 20 ≡ sumOf s 16
+unfolding sumOf
+over-checksum s = omega arith
+
+sum-after : (s : List ℕ) (m : ℕ) → 20 + m ≤ length s → sumOf s (20 + m) ≡ total (take 16 s) + total (take m (drop 20 s))
+unfolding sumOf total
+sum-after s zero l = omega (arith, over-checksum s, sum-before s 16 (omega arith) (omega arith))
+sum-after s (suc m) l =
+    let n : 20 + suc m ≡ suc (20 + m) = omega arith in
+    let k : m < length (drop 20 s) = omega (arith, length-drop 20 s) in
+    let c = counted-here s (20 + m) (inr (omega arith)) in
+    let t = total-append (take m (drop 20 s)) (getD (drop 20 s) m 0 ∷ []) in
+    rw (n, c, sum-after s m (omega arith), take-suc (drop 20 s) m 0 k, t, getD-drop 20 s m 0) (omega arith)
+
+-- Of the first n bytes of s.
+pub sum-words : (s : List ℕ) (n : ℕ) → 20 ≤ n → n ≤ length s → sumOf s n ≡ total (unstated (take n s))
+sum-words s n h l =
+    let m : 20 + (n - 20) ≡ n = omega arith in
+    let c : length (take 20 s) ≡ 20 = length-take-le 20 s (omega arith) in
+    let a : take n s ≡ take 20 s ++ take (n - 20) (drop 20 s) = ap (λ (k : ℕ). take k s) (sym m) ∙ take-add 20 (n - 20) s in
+    let d : drop 20 (take n s) ≡ take (n - 20) (drop 20 s) = ap (drop 20) a ∙ drop-at (take 20 s) (take (n - 20) (drop 20 s)) 20 c in
+    rw (total-unstated (take n s), take-take 16 n s (omega arith), d, ← sum-after s (n - 20) (omega arith), m)
+
+-- "A field of 0 means none is stated": the field is 0 or the sum.
+sum-stated : (s : List ℕ) → sumFits s ≡ true → (checksumOf s ≡ 0) ⊎ (checksumOf s ≡ spanSum s)
+unfolding sumFits
+sum-stated s e = go (eqb (checksumOf s) 0) refl e
+  where
+    go : (b : Bool) → eqb (checksumOf s) 0 ≡ b → cond b true (eqb (checksumOf s) (spanSum s)) ≡ true → (checksumOf s ≡ 0) ⊎ (checksumOf s ≡ spanSum s)
+    go true q f = inl (eqb-true _ 0 q)
+    go false q f = inr (eqb-true _ _ f)
+
+stated-sum : (s : List ℕ) → (checksumOf s ≡ 0) ⊎ (checksumOf s ≡ spanSum s) → sumFits s ≡ true
+unfolding sumFits
+stated-sum s (inl z) = rw (eq-eqb (checksumOf s) 0 z)
+stated-sum s (inr q) = go (eqb (checksumOf s) 0)
+  where
+    go : (b : Bool) → cond b true (eqb (checksumOf s) (spanSum s)) ≡ true
+    go true = refl
+    go false = eq-eqb (checksumOf s) (spanSum s) q
+
+-- The same of a span that the part s begins with.
+module _ (s : List ℕ) (long : 20 ≤ offset s + len s) (fits : offset s + len s ≤ length s) where
+  abbrev whole-span : List ℕ
+  whole-span = take (offset s + len s) s
+
+  same-checksum : checksumOf whole-span ≡ checksum s
+  same-checksum = be-same 4 s whole-span 16 (λ j a b. getD-take (offset s + len s) s j 0 (omega arith))
+
+  same-sum : spanSum whole-span ≡ sumOf s (offset s + len s) % 4294967296
+  unfolding spanSum
+  same-sum = rw (sum-words s (offset s + len s) long fits)
+
+  words-sum : sumFits whole-span ≡ true → (checksum s ≡ 0) ⊎ (checksum s ≡ sumOf s (offset s + len s) % 4294967296)
+  words-sum e = rw (same-checksum, same-sum) at (sum-stated whole-span e)
+
+  sum-fit : (checksum s ≡ 0) ⊎ (checksum s ≡ sumOf s (offset s + len s) % 4294967296) → sumFits whole-span ≡ true
+  sum-fit e = stated-sum whole-span (rw (same-checksum, same-sum) e)
+
 well-formed : (s : List ℕ) (c : Component) → Formed s c → WellFormedHeader s (length (beforeZero (nameField s)))
 unfolding startsWithMagic magic
 well-formed s c f =
@@ -137,6 +225,7 @@ well-formed s c f =
       in-field = omega (arith, d .inside, l);
       letters = λ j h. rw (nth s o j (omega (arith, d .inside, l))) at (d .letters j h);
       zeros = λ j h k. sym (nth s o j k) ∙ d .zeros j h (omega (arith, l));
+      sum = words-sum s (omega (arith, f .least)) (f .fits) (f .summed);
     }
 
 field-words : (s : List ℕ) (n : ℕ) → WellFormedHeader s n → Field (nameField s) n
@@ -150,6 +239,26 @@ field-words s n w =
       letters = λ j h. rw (nth s o j (omega (arith, w .in-field))) (w .letters j h);
       zeros = λ j h k. nth s o j (omega (arith, l)) ∙ w .zeros j h (omega (arith, l));
     }
+
+-- Well formed is what document 01's tests accept (`headed`) and whose checksum is 0 or the sum of the span.
+pub well-formed-exactly : (s : List ℕ) (c : Component)
+    → (judge s ≡ some c) ↔ ((headed s ≡ some c) × ((c .checksum ≡ 0) ⊎ (c .checksum ≡ spanSum (take (span c) s))))
+well-formed-exactly s c = (there, λ h. judge-headed s (some c) (h .0) ∙ back (h .0) (h .1))
+  where
+    stated : headed s ≡ some c → checksumOf (take (span c) s) ≡ c .checksum
+    stated h = let f = headed-fits s c h in
+        be-same 4 s (take (span c) s) 16 (λ j a b. getD-take (span c) s j 0 (omega (arith, f))) ∙ headed-read s c h
+
+    back : headed s ≡ some c → (c .checksum ≡ 0) ⊎ (c .checksum ≡ spanSum (take (span c) s)) → summedOf s (some c) ≡ some c
+    back h w = rw (stated-sum (take (span c) s) (rw (stated h) w))
+
+    there : judge s ≡ some c → (headed s ≡ some c) × ((c .checksum ≡ 0) ⊎ (c .checksum ≡ spanSum (take (span c) s)))
+    there e =
+        let h : headed s ≡ some c = headed-numbers s (judge-magic s c e) ∙ judge-numbers s c e in
+        (h, rw (stated h) at (sum-stated (take (span c) s) (fits-stated h e)))
+      where
+        fits-stated : headed s ≡ some c → judge s ≡ some c → sumFits (take (span c) s) ≡ true
+        fits-stated h e = cond-some (sumFits (take (span c) s)) c c (sym (judge-headed s (some c) h) ∙ e) .0
 
 -- The definition's component is the paper's, for the length of the name.
 same-component : (s : List ℕ) (n : ℕ) → n ≤ offset s - 24 → beforeZero (nameField s) ≡ take n (nameField s) → componentOf s ≡ component s n
@@ -169,6 +278,7 @@ judge-words s n w =
       whole = let (k, e) = w .multiple in whole (offset s) k e;
       fits = w .span-fits;
       named = field-fit (nameField s) n d;
+      summed = sum-fit s (omega (arith, w .offset-least)) (w .span-fits) (w .sum);
       read = same-component s n (omega (arith, w .in-field)) (field-before (nameField s) n d);
     })
 

@@ -4,9 +4,9 @@ use Prim.Native.Nat.{ℕ, zero, suc, _+_, _-_, _%_, _≤_, _<_, min}
 use native.Mathlib.Nat.{min-le-left}
 use native.Mathlib.Omega.{arith}
 use mathlib.Core.Path.{_≡_, refl, sym, ap, subst, _∙_}
-use mathlib.Core.List.{List, [], _∷_}
+use mathlib.Core.List.{List, [], _∷_, _++_}
 use mathlib.Core.Bool.{Bool, true, false, cond, true≢false, false≢true}
-use mathlib.Core.Option.{Option, some, none, Option·some-injective, Option·none-ne-some}
+use mathlib.Core.Option.{Option, some, none, Option·some-injective, Option·none-ne-some, Option·some-ne-none}
 use lib.ListN.{length, getD, take, drop, length-take, length-drop}
 use lib.Seq.{take-take, getD-take, getD-drop, ext-getD}
 use lib.Dec.{ltb, eqb}
@@ -18,7 +18,8 @@ use Rattle.number.proofs.SameBytes.{eq-length, eq-true, eq-refl}
 use Rattle.number.proofs.Splice.{part-in}
 use Rattle.number.specs.Tests.{every, all}
 use Rattle.component.specs.Names.{beforeZero, nameFits, fieldFits, nameLength}
-use Rattle.component.specs.Component.{magic, startsWithMagic, lenOf, kindOf, offsetOf, nameField, Component, span, componentOf, headerTests, wellFormed, fields, judge, judged, headerOf, nameOf, contentOf}
+use Rattle.component.specs.Sums.{checksumOf, sumFits}
+use Rattle.component.specs.Component.{magic, startsWithMagic, lenOf, kindOf, offsetOf, nameField, Component, span, componentOf, numberTests, headerTests, wellFormed, numbers, headed, fields, judge, judged, headerOf, nameOf, contentOf}
 use Rattle.component.specs.declared.Header.{Header}
 use Rattle.component.specs.declared.Judged.the-variants.{WellFormed, IllFormed}
 use Rattle.number.proofs.Passing.{fails, passes}
@@ -59,17 +60,95 @@ magic-number s l p = go (eqBytes (take 8 s) magic) refl
 
 -- The fields, by the tests on the offset o and the length l that were read.
 
-pub fields-bad : (s : List ℕ) (o l k : ℕ) → o ≡ offsetOf s → l ≡ lenOf s → getD (headerTests s o l) k true ≡ false → IllFormed ≡ judged (fields s)
-unfolding fields wellFormed
-fields-bad s o l k eo el h = rw (← eo, ← el, fails k (headerTests s o l) h)
+pub numbers-bad : (s : List ℕ) (o l k : ℕ) → o ≡ offsetOf s → l ≡ lenOf s → getD (numberTests s o l) k true ≡ false → IllFormed ≡ judged (numbers s)
+unfolding numbers
+numbers-bad s o l k eo el h = rw (← eo, ← el, fails k (numberTests s o l) h)
 
-pub fields-good : (s : List ℕ) (h : Header) → h .offset ≡ offsetOf s → h .len ≡ lenOf s → h .kind ≡ kindOf s
-    → h .named ≡ nameLength (take (h .offset - 24) (drop 24 s)) → every (headerTests s (h .offset) (h .len)) ≡ true → WellFormed h ≡ judged (fields s)
-unfolding fields wellFormed componentOf headerTests
-fields-good s h eo el ek en t =
-    let f : fieldFits (take (h .offset - 24) (drop 24 s)) ≡ true = passes 5 (headerTests s (h .offset) (h .len)) t in
+pub numbers-good : (s : List ℕ) (h : Header) → h .offset ≡ offsetOf s → h .len ≡ lenOf s → h .kind ≡ kindOf s → h .checksum ≡ checksumOf s
+    → h .named ≡ nameLength (take (h .offset - 24) (drop 24 s)) → every (numberTests s (h .offset) (h .len)) ≡ true → WellFormed h ≡ judged (numbers s)
+unfolding numbers componentOf numberTests
+numbers-good s h eo el ek es en t =
+    let f : fieldFits (take (h .offset - 24) (drop 24 s)) ≡ true = passes 5 (numberTests s (h .offset) (h .len)) t in
     let n : h .named ≡ length (beforeZero (take (h .offset - 24) (drop 24 s))) = en ∙ length-fit (take (h .offset - 24) (drop 24 s)) f in
-    rw (← eo, ← el, t, ← ek, ← n)
+    rw (← eo, ← el, t, ← ek, ← es, ← n)
+
+pub cond-some : {A : Type 0} (b : Bool) (x y : A) → cond b (some x) none ≡ some y → (b ≡ true) × (x ≡ y)
+cond-some true x y e = (refl, Option·some-injective _ _ e)
+cond-some false x y e = absurd (Option·none-ne-some _ e)
+
+-- The fields are the numbers, then the sum.
+
+every-one : (ts : List Bool) (b : Bool) → every (ts ++ (b ∷ [])) ≡ cond (every ts) b false
+every-one [] true = refl
+every-one [] false = refl
+every-one (true ∷ ts) b = every-one ts b
+every-one (false ∷ ts) b = refl
+
+pub fields-ill : (s : List ℕ) → numbers s ≡ none → fields s ≡ none
+unfolding fields wellFormed headerTests numbers
+fields-ill s e = rw (every-one (numberTests s (offsetOf s) (lenOf s)) (sumFits (take (offsetOf s + lenOf s) s))) (go (every (numberTests s (offsetOf s) (lenOf s))) e)
+  where
+    go : (b : Bool) → cond b (some (componentOf s)) none ≡ none → cond (cond b (sumFits (take (offsetOf s + lenOf s) s)) false) (some (componentOf s)) none ≡ none
+    go true q = absurd (Option·some-ne-none _ q)
+    go false q = refl
+
+pub fields-summed : (s : List ℕ) (c : Component) → numbers s ≡ some c → fields s ≡ cond (sumFits (take (span c) s)) (some c) none
+unfolding fields wellFormed headerTests numbers componentOf
+fields-summed s c e = rw (every-one (numberTests s (offsetOf s) (lenOf s)) (sumFits (take (offsetOf s + lenOf s) s))) (go (every (numberTests s (offsetOf s) (lenOf s))) e)
+  where
+    go : (b : Bool) → cond b (some (componentOf s)) none ≡ some c
+        → cond (cond b (sumFits (take (offsetOf s + lenOf s) s)) false) (some (componentOf s)) none ≡ cond (sumFits (take (span c) s)) (some c) none
+    go true q = ap (λ (x : Component). cond (sumFits (take (span x) s)) (some x) none) (Option·some-injective _ _ q)
+    go false q = absurd (Option·none-ne-some _ q)
+
+-- What the sum leaves of the component that was found by the numbers.
+abbrev pub summedOf : List ℕ → Option Component → Option Component
+summedOf s none = none
+summedOf s (some c) = cond (sumFits (take (span c) s)) (some c) none
+
+-- From the answer to the component.
+
+pub judged-some : (o : Option Component) (h : Header) → judged o ≡ WellFormed h → (c : Component) × (o ≡ some c) × (headerOf c ≡ h)
+judged-some none h e = let z : _≡_ {A = ℕ} 0 1 = cc in absurd (omega arith)
+judged-some (some c) h e = (c, refl, (cc))
+
+pub judged-none : (o : Option Component) → judged o ≡ IllFormed → o ≡ none
+judged-none none e = refl
+judged-none (some c) e = let z : _≡_ {A = ℕ} 0 1 = cc in absurd (omega arith)
+
+-- What the header's numbers meet.
+
+pub numbers-read : (s : List ℕ) (c : Component) → numbers s ≡ some c
+    → (40 ≤ offsetOf s) × (offsetOf s + lenOf s ≤ length s) × (fieldFits (nameField s) ≡ true) × (componentOf s ≡ c)
+unfolding numbers numberTests
+numbers-read s c e =
+    let w = cond-some (every (numberTests s (offsetOf s) (lenOf s))) (componentOf s) c e in
+    let t : (k : ℕ) → getD (numberTests s (offsetOf s) (lenOf s)) k true ≡ true = λ k. passes k (numberTests s (offsetOf s) (lenOf s)) (w .0) in
+    (leb-true _ _ (t 1), leb-true _ _ (t 4), t 5, w .1)
+
+pub numbers-fits : (s : List ℕ) (c : Component) → numbers s ≡ some c → (40 ≤ c .offset) × (span c ≤ length s)
+unfolding componentOf
+numbers-fits s c e = let (least, fits, named, read) = numbers-read s c e in
+    subst (λ (x : Component). (40 ≤ x .offset) × (span x ≤ length s)) read (least, fits)
+
+-- The same three by what the judge of the numbers answered.
+
+pub numbers-header : (s : List ℕ) (h : Header) → judged (numbers s) ≡ WellFormed h → (40 ≤ h .offset) × (h .offset + h .len ≤ length s)
+numbers-header s h e = let (c, q, r) = judged-some (numbers s) h e in
+    subst (λ (x : Header). (40 ≤ x .offset) × (x .offset + x .len ≤ length s)) r (numbers-fits s c q)
+
+pub ill-numbers : (s : List ℕ) → judged (numbers s) ≡ IllFormed → fields s ≡ none
+ill-numbers s e = fields-ill s (judged-none (numbers s) e)
+
+pub header-summed : (s : List ℕ) (h : Header) (b : Bool) → judged (numbers s) ≡ WellFormed h → sumFits (take (h .offset + h .len) s) ≡ b
+    → judged (fields s) ≡ cond b (WellFormed h) IllFormed
+header-summed s h b e f = let (c, q, r) = judged-some (numbers s) h e in
+    ap judged (fields-summed s c q) ∙ go c r b f
+  where
+    go : (c : Component) → headerOf c ≡ h → (b : Bool) → sumFits (take (h .offset + h .len) s) ≡ b
+        → judged (cond (sumFits (take (span c) s)) (some c) none) ≡ cond b (WellFormed h) IllFormed
+    go c r true f = rw (ap (λ (x : Header). sumFits (take (x .offset + x .len) s)) r ∙ f) (ap WellFormed r)
+    go c r false f = rw (ap (λ (x : Header). sumFits (take (x .offset + x .len) s)) r ∙ f)
 
 -- The judge is the magic's test, then the fields.
 
@@ -81,6 +160,43 @@ pub judge-quiet : (s : List ℕ) → startsWithMagic s ≡ false → judge s ≡
 unfolding judge
 judge-quiet s e = rw e
 
+-- By document 01's tests alone: the magic's test, then the numbers.
+
+pub headed-numbers : (s : List ℕ) → startsWithMagic s ≡ true → headed s ≡ numbers s
+unfolding headed
+headed-numbers s e = rw e
+
+pub headed-quiet : (s : List ℕ) → startsWithMagic s ≡ false → headed s ≡ none
+unfolding headed
+headed-quiet s e = rw e
+
+pub headed-magic : (s : List ℕ) (c : Component) → headed s ≡ some c → startsWithMagic s ≡ true
+headed-magic s c e = go (startsWithMagic s) refl
+  where
+    go : (b : Bool) → startsWithMagic s ≡ b → b ≡ true
+    go true q = refl
+    go false q = absurd (Option·none-ne-some c (sym (headed-quiet s q) ∙ e))
+
+pub headed-fits : (s : List ℕ) (c : Component) → headed s ≡ some c → (40 ≤ c .offset) × (span c ≤ length s)
+headed-fits s c e = numbers-fits s c (sym (headed-numbers s (headed-magic s c e)) ∙ e)
+
+pub headed-read : (s : List ℕ) (c : Component) → headed s ≡ some c → checksumOf s ≡ c .checksum
+unfolding componentOf
+headed-read s c e = ap (λ (x : Component). x .checksum) (numbers-read s c (sym (headed-numbers s (headed-magic s c e)) ∙ e) .3)
+
+-- The judge is these, then the sum.
+pub judge-headed : (s : List ℕ) (o : Option Component) → headed s ≡ o → judge s ≡ summedOf s o
+judge-headed s o e = go (startsWithMagic s) refl o e
+  where
+    fields-of : (o : Option Component) → numbers s ≡ o → fields s ≡ summedOf s o
+    fields-of none q = fields-ill s q
+    fields-of (some c) q = fields-summed s c q
+
+    go : (b : Bool) → startsWithMagic s ≡ b → (o : Option Component) → headed s ≡ o → judge s ≡ summedOf s o
+    go true m o q = judge-fields s m ∙ fields-of o (sym (headed-numbers s m) ∙ q)
+    go false m none q = judge-quiet s m
+    go false m (some c) q = absurd (Option·none-ne-some c (sym (headed-quiet s m) ∙ q))
+
 -- What a judged part is, test by test.
 pub record Formed (s : List ℕ) (c : Component) : Type 0 where
   pub magic : startsWithMagic s ≡ true
@@ -90,14 +206,11 @@ pub record Formed (s : List ℕ) (c : Component) : Type 0 where
   pub whole : (offsetOf s - 24) % 16 ≡ 0
   pub fits : offsetOf s + lenOf s ≤ length s
   pub named : fieldFits (nameField s) ≡ true
+  pub summed : sumFits (take (offsetOf s + lenOf s) s) ≡ true
   pub read : componentOf s ≡ c
 
-cond-some : {A : Type 0} (b : Bool) (x y : A) → cond b (some x) none ≡ some y → (b ≡ true) × (x ≡ y)
-cond-some true x y e = (refl, Option·some-injective _ _ e)
-cond-some false x y e = absurd (Option·none-ne-some _ e)
-
 pub formed : (s : List ℕ) (c : Component) → judge s ≡ some c → Formed s c
-unfolding judge fields wellFormed headerTests
+unfolding judge fields wellFormed headerTests numberTests
 formed s c e = go (startsWithMagic s) refl e
   where
     go : (b : Bool) → startsWithMagic s ≡ b → cond b (fields s) none ≡ some c → Formed s c
@@ -113,13 +226,14 @@ formed s c e = go (startsWithMagic s) refl e
           whole = eqb-true _ _ (t 3);
           fits = leb-true _ _ (t 4);
           named = t 5;
+          summed = t 6;
           read = w .1;
         }
 
 pub unformed : (s : List ℕ) (c : Component) → Formed s c → judge s ≡ some c
-unfolding judge fields wellFormed headerTests
+unfolding judge fields wellFormed headerTests numberTests
 unformed s c f =
-    rw (f .magic, le-leb _ _ (f .long), le-leb _ _ (f .least), le-leb _ _ (f .most), f .whole, le-leb _ _ (f .fits), f .named) (ap some (f .read))
+    rw (f .magic, le-leb _ _ (f .long), le-leb _ _ (f .least), le-leb _ _ (f .most), f .whole, le-leb _ _ (f .fits), f .named, f .summed) (ap some (f .read))
 
 -- A component has 40 bytes or more, and lies in the part.
 pub judge-fits : (s : List ℕ) (c : Component) → judge s ≡ some c → (40 ≤ c .offset) × (span c ≤ length s)
@@ -133,25 +247,35 @@ judge-fits s c e =
 pub judge-magic : (s : List ℕ) (c : Component) → judge s ≡ some c → startsWithMagic s ≡ true
 judge-magic s c e = formed s c e .magic
 
+-- Its numbers are well formed, whatever its sum.
+pub judge-numbers : (s : List ℕ) (c : Component) → judge s ≡ some c → numbers s ≡ some c
+judge-numbers s c e = go (numbers s) refl (sym (judge-fields s (judge-magic s c e)) ∙ e)
+  where
+    go : (o : Option Component) → numbers s ≡ o → fields s ≡ some c → o ≡ some c
+    go none q f = absurd (Option·none-ne-some c (sym (fields-ill s q) ∙ f))
+    go (some x) q f = ap some (cond-some (sumFits (take (span x) s)) x c (sym (fields-summed s x q) ∙ f) .1)
+
 -- Its name is a fit one, and stands after the header; its content is the last len bytes of its span.
 
-pub judge-name : (s : List ℕ) (c : Component) → judge s ≡ some c
+pub numbers-name : (s : List ℕ) (c : Component) → numbers s ≡ some c
     → (nameFits (c .name) ≡ true) × (24 + length (c .name) ≤ c .offset) × (take (length (c .name)) (drop 24 s) ≡ c .name)
 unfolding componentOf
-judge-name s c e = subst (λ (x : Component). (nameFits (x .name) ≡ true) × (24 + length (x .name) ≤ x .offset) × (take (length (x .name)) (drop 24 s) ≡ x .name)) (f .read) (
-  field-name (nameField s) (f .named),
-  omega (arith, f .least, l, v),
-  sym (take-take (length (beforeZero (nameField s))) (offsetOf s - 24) (drop 24 s) (omega (arith, l, v))) ∙ before-take (nameField s),
-)
+numbers-name s c e = let (least, fits, named, read) = numbers-read s c e in
+    subst (λ (x : Component). (nameFits (x .name) ≡ true) × (24 + length (x .name) ≤ x .offset) × (take (length (x .name)) (drop 24 s) ≡ x .name)) read (
+      field-name (nameField s) named,
+      omega (arith, least, l, v),
+      sym (take-take (length (beforeZero (nameField s))) (offsetOf s - 24) (drop 24 s) (omega (arith, l, v))) ∙ before-take (nameField s),
+    )
   where
-    f : Formed s c
-    f = formed s c e
-
     l : length (beforeZero (nameField s)) ≤ length (nameField s)
     l = before-le (nameField s)
 
     v : length (nameField s) ≤ offsetOf s - 24
     v = rw length-take (min-le-left _ _)
+
+pub judge-name : (s : List ℕ) (c : Component) → judge s ≡ some c
+    → (nameFits (c .name) ≡ true) × (24 + length (c .name) ≤ c .offset) × (take (length (c .name)) (drop 24 s) ≡ c .name)
+judge-name s c e = numbers-name s c (judge-numbers s c e)
 
 pub judge-content : (s : List ℕ) (c : Component) → judge s ≡ some c → (c .content ≡ take (c .len) (drop (c .offset) s)) × (length (c .content) ≡ c .len)
 unfolding componentOf
@@ -199,7 +323,7 @@ module _ (n : ℕ) (s s′ : List ℕ) (long : n ≤ length s) (same : take n s�
   same-component : offsetOf s + lenOf s ≤ n → 24 ≤ n → componentOf s′ ≡ componentOf s
   unfolding componentOf
   same-component h k =
-      rw (same-be 4 20 (omega arith), same-be 4 8 (omega arith), same-be 4 12 (omega arith), same-part (offsetOf s) (lenOf s) h, same-part 24 (offsetOf s - 24) (omega arith))
+      rw (same-be 4 20 (omega arith), same-be 4 8 (omega arith), same-be 4 12 (omega arith), same-be 4 16 (omega arith), same-part (offsetOf s) (lenOf s) h, same-part 24 (offsetOf s - 24) (omega arith))
 
 -- A component is judged by the bytes of its span alone.
 pub judge-local : (s s′ : List ℕ) (c : Component) → judge s ≡ some c → take (span c) s′ ≡ take (span c) s → judge s′ ≡ some c
@@ -219,27 +343,27 @@ judge-local s s′ c e same =
       whole = rw o (f .whole);
       fits = omega arith;
       named = rw (same-field (span c) s s′ (b .1) same (omega arith) (omega arith)) (f .named);
+      summed = rw (o, n, q, same) (rw q at (f .summed));
       read = same-component (span c) s s′ (b .1) same (omega arith) (omega arith) ∙ f .read;
     })
 
--- From the answer to the component.
+-- The name by what was answered, of the judge or of the numbers alone.
 
-pub judged-some : (o : Option Component) (h : Header) → judged o ≡ WellFormed h → (c : Component) × (o ≡ some c) × (headerOf c ≡ h)
-judged-some none h e = let z : _≡_ {A = ℕ} 0 1 = cc in absurd (omega arith)
-judged-some (some c) h e = (c, refl, (cc))
-
-pub judged-none : (o : Option Component) → judged o ≡ IllFormed → o ≡ none
-judged-none none e = refl
-judged-none (some c) e = let z : _≡_ {A = ℕ} 0 1 = cc in absurd (omega arith)
+part-named : (s : List ℕ) (o : Option Component) (h : Header) → ((c : Component) → o ≡ some c → numbers s ≡ some c)
+    → judged o ≡ WellFormed h → partOf s 24 (h .named) ≡ nameOf o
+part-named s o h n e = let (c, q, r) = judged-some o h e in go c q r
+  where
+    go : (c : Component) → o ≡ some c → headerOf c ≡ h → partOf s 24 (h .named) ≡ nameOf o
+    go c q r =
+        let f = numbers-fits s c (n c q) in
+        let m = numbers-name s c (n c q) in
+        subst (λ (x : Header). partOf s 24 (x .named) ≡ nameOf o) r (sym (part-in s 24 (length (c .name)) (omega (arith, f .1, m .1))) ∙ m .2 ∙ sym (ap nameOf q))
 
 pub part-name : (s : List ℕ) (h : Header) → judged (judge s) ≡ WellFormed h → partOf s 24 (h .named) ≡ nameOf (judge s)
-part-name s h e = let (c, q, r) = judged-some (judge s) h e in go c q r
-  where
-    go : (c : Component) → judge s ≡ some c → headerOf c ≡ h → partOf s 24 (h .named) ≡ nameOf (judge s)
-    go c q r =
-        let f = judge-fits s c q in
-        let n = judge-name s c q in
-        subst (λ (x : Header). partOf s 24 (x .named) ≡ nameOf (judge s)) r (sym (part-in s 24 (length (c .name)) (omega (arith, f .1, n .1))) ∙ n .2 ∙ sym (ap nameOf q))
+part-name s h e = part-named s (judge s) h (judge-numbers s) e
+
+pub part-bare : (s : List ℕ) (h : Header) → judged (numbers s) ≡ WellFormed h → partOf s 24 (h .named) ≡ nameOf (numbers s)
+part-bare s h e = part-named s (numbers s) h (λ c q. q) e
 
 pub part-content : (s : List ℕ) (h : Header) → judged (judge s) ≡ WellFormed h → partOf s (h .offset) (h .len) ≡ contentOf (judge s)
 part-content s h e = let (c, q, r) = judged-some (judge s) h e in go c q r

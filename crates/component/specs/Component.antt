@@ -1,6 +1,6 @@
 -- A component, judged on the part of the image that begins at its place (document 01, "Components and the two walks").
 use Prim.Native.Nat.{ℕ, _+_, _-_, _%_}
-use mathlib.Core.List.{List, [], _∷_}
+use mathlib.Core.List.{List, [], _∷_, _++_}
 use mathlib.Core.Bool.{Bool, false, cond}
 use mathlib.Core.Option.{Option, some, none}
 use lib.ListN.{length, take, drop}
@@ -9,6 +9,7 @@ use Rattle.number.specs.Number.{be}
 use Rattle.number.specs.Bytes.{eqBytes}
 use Rattle.number.specs.Tests.{every}
 use Rattle.component.specs.Names.{beforeZero, fieldFits}
+use Rattle.component.specs.Sums.{checksumOf, sumFits}
 use Rattle.component.specs.declared.Header.{Header}
 use Rattle.component.specs.declared.Judged.{Judged}
 use Rattle.component.specs.declared.Judged.the-variants.{WellFormed, IllFormed}
@@ -21,7 +22,7 @@ magic = 0x4C ∷ 0x41 ∷ 0x52 ∷ 0x43 ∷ 0x48 ∷ 0x49 ∷ 0x56 ∷ 0x45 ∷ 
 unfoldable pub startsWithMagic : List ℕ → Bool
 startsWithMagic s = eqBytes (take 8 s) magic
 
--- The header's fields, big-endian: len, type, checksum and offset after the eight bytes of the magic. The checksum is not read.
+-- The header's fields, big-endian: len, type, checksum (see Sums) and offset after the eight bytes of the magic.
 
 abbrev pub lenOf : List ℕ → ℕ
 lenOf s = be 4 s 8
@@ -41,6 +42,8 @@ pub record Component : Type 0 where
   pub offset : ℕ
   pub len : ℕ
   pub kind : ℕ
+  -- as it stands in the header
+  pub checksum : ℕ
   pub name : List ℕ
   pub content : List ℕ
 
@@ -54,13 +57,14 @@ componentOf s = record {
   offset = offsetOf s;
   len = lenOf s;
   kind = kindOf s;
+  checksum = checksumOf s;
   name = beforeZero (nameField s);
   content = take (lenOf s) (drop (offsetOf s) s);
 }
 
--- What a well-formed header with the offset o and the length l meets.
-unfoldable pub headerTests : List ℕ → ℕ → ℕ → List Bool
-headerTests s o l =
+-- What the numbers and the name field of a well-formed header with the offset o and the length l meet: document 01's tests.
+unfoldable pub numberTests : List ℕ → ℕ → ℕ → List Bool
+numberTests s o l =
     leb 24 (length s)
     ∷ leb 40 o
     ∷ leb o 280
@@ -68,6 +72,10 @@ headerTests s o l =
     ∷ leb (o + l) (length s)
     ∷ fieldFits (take (o - 24) (drop 24 s))
     ∷ []
+
+-- What a well-formed header meets: these, and no wrong sum of its span is stated (request 5).
+unfoldable pub headerTests : List ℕ → ℕ → ℕ → List Bool
+headerTests s o l = numberTests s o l ++ (sumFits (take (o + l) s) ∷ [])
 
 unfoldable pub wellFormed : List ℕ → Bool
 wellFormed s = every (headerTests s (offsetOf s) (lenOf s))
@@ -80,10 +88,18 @@ fields s = cond (wellFormed s) (some (componentOf s)) none
 unfoldable pub judge : List ℕ → Option Component
 judge s = cond (startsWithMagic s) (fields s) none
 
+-- The same by document 01's tests alone, the sum not looked at: for a walk, which takes the sum last, and for a place whose sum was taken already.
+
+unfoldable pub numbers : List ℕ → Option Component
+numbers s = cond (every (numberTests s (offsetOf s) (lenOf s))) (some (componentOf s)) none
+
+unfoldable pub headed : List ℕ → Option Component
+headed s = cond (startsWithMagic s) (numbers s) none
+
 -- What the judge answers.
 
 abbrev pub headerOf : Component → Header
-headerOf c = record { offset = c .offset; len = c .len; kind = c .kind; named = length (c .name) }
+headerOf c = record { offset = c .offset; len = c .len; kind = c .kind; checksum = c .checksum; named = length (c .name) }
 
 abbrev pub judged : Option Component → Judged
 judged none = IllFormed

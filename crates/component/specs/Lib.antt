@@ -1,3 +1,4 @@
 pub mod Names
+pub mod Sums
 pub mod Component
 pub mod Table

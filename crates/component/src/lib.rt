@@ -1,9 +1,12 @@
 // A CBFS component: the magic, the header's judge, and names (document 01, "Components and the two walks").
 // A part is what begins at a component's place and goes up to the region's end.
 ghost use mathlib.Core.Path.{_≡_};
+ghost use Prim.Native.Nat.{_+_, _%_};
 ghost use Rattle.number.specs.Tests.{all};
 ghost use Rattle.component.specs.Names.{isZero, nameFits, nameLength};
-ghost use Rattle.component.specs.Component.{startsWithMagic, fields as fieldsOf, judge as judgeOf, judged, nameOf, contentOf, bearsName};
+ghost use Rattle.component.specs.Sums.{total, ownBytes, sumFits};
+ghost use Rattle.component.specs.Component.{startsWithMagic, numbers as numbersOf, fields as fieldsOf, judge as judgeOf};
+ghost use Rattle.component.specs.Component.{judged, nameOf, contentOf, bearsName};
 
 // The numbers of a well-formed header.
 pub struct Header {
@@ -11,6 +14,8 @@ pub struct Header {
     pub len: usize,
     // the component's type
     pub kind: u32,
+    // the sum that is stated, or 0
+    pub checksum: u32,
     // the length of the name
     pub named: usize,
 }
@@ -78,9 +83,73 @@ pub fn name_length(f: &[u8]) -> usize
     n
 }
 
-// The header's fields alone, for a part that is known to begin with the magic.
-pub fn fields(s: &[u8]) -> Judged
-    ensures { λ j. ⌜ j ≡ judged (fieldsOf (now (s .entry))) ⌝ }
+// A sum taken one byte further, as a 32-bit number.
+fn further(sum: u32, b: u8) -> u32
+    ensures { λ r. ⌜ r ≡ (sum + b) % 4294967296 ⌝ }
+{
+    ((sum as u64 + b as u64) % 4294967296) as u32
+}
+
+// The sum of some bytes, as a 32-bit number, one by one.
+fn few(s: &[u8]) -> u32
+    ensures { λ r. ⌜ r ≡ total (now (s .entry)) % 4294967296 ⌝ }
+{
+    let mut t = 0;
+    let mut i = 0;
+    while i < s.len() {
+        t = further(t, s[i]);
+        i += 1;
+    }
+    t
+}
+
+// Two sums make one.
+fn joined(a: u32, b: u32) -> u32
+    ensures { λ r. ⌜ r ≡ (a + b) % 4294967296 ⌝ }
+{
+    ((a as u64 + b as u64) % 4294967296) as u32
+}
+
+// The sum of all bytes, as a 32-bit number. In blocks of 64, so that the compiler adds sixteen by one instruction.
+pub fn sum(s: &[u8]) -> u32
+    ensures { λ r. ⌜ r ≡ total (now (s .entry)) % 4294967296 ⌝ }
+    ensures kept { λ _. ⌜ now (s .exit) ≡ now (s .entry) ⌝ }
+{
+    let mut t = 0;
+    let mut i = 0;
+    while i + 64 <= s.len() {
+        t = joined(t, few(&s[i..i + 64]));
+        i += 64;
+    }
+    joined(t, few(&s[i..]))
+}
+
+// The sum of the four checksum bytes.
+fn own_bytes(s: &[u8]) -> u32
+    ensures { λ r. ⌜ r ≡ ownBytes (now (s .entry)) ⌝ }
+{
+    number::byte(s, 16) as u32
+        + number::byte(s, 17) as u32
+        + number::byte(s, 18) as u32
+        + number::byte(s, 19) as u32
+}
+
+// The span states no sum, or the right one. Where it states none, no byte is summed. Its own four bytes are added to the stated sum and not left out
+// of the other, so that the span is summed in one go.
+pub fn sum_fits(s: &[u8]) -> bool
+    ensures { λ r. ⌜ r ≡ sumFits (now (s .entry)) ⌝ }
+    ensures kept { λ _. ⌜ now (s .exit) ≡ now (s .entry) ⌝ }
+{
+    let stated = number::be32(s, 16);
+    if stated == 0 {
+        return true;
+    }
+    sum(s) == joined(stated, own_bytes(s))
+}
+
+// The header's numbers and its name field alone, for a part that is known to begin with the magic. The sum is not looked at.
+pub fn numbers(s: &[u8]) -> Judged
+    ensures { λ j. ⌜ j ≡ judged (numbersOf (now (s .entry))) ⌝ }
     ensures kept { λ _. ⌜ now (s .exit) ≡ now (s .entry) ⌝ }
 {
     if s.len() < 24 {
@@ -89,6 +158,7 @@ pub fn fields(s: &[u8]) -> Judged
     let offset = number::be32(s, 20) as usize;
     let len = number::be32(s, 8) as usize;
     let kind = number::be32(s, 12);
+    let checksum = number::be32(s, 16);
     if offset < 40 {
         return Judged::IllFormed;
     }
@@ -109,8 +179,27 @@ pub fn fields(s: &[u8]) -> Judged
         offset,
         len,
         kind,
+        checksum,
         named,
     })
+}
+
+// The header's fields alone, for a part that is known to begin with the magic: its numbers, then its sum.
+pub fn fields(s: &[u8]) -> Judged
+    ensures { λ j. ⌜ j ≡ judged (fieldsOf (now (s .entry))) ⌝ }
+    ensures kept { λ _. ⌜ now (s .exit) ≡ now (s .entry) ⌝ }
+{
+    let j = numbers(s);
+    match j {
+        Judged::IllFormed => Judged::IllFormed,
+        Judged::WellFormed(h) => {
+            let n = h.offset + h.len;
+            if sum_fits(&s[0..n]) {
+                return Judged::WellFormed(h);
+            }
+            Judged::IllFormed
+        }
+    }
 }
 
 // The component that stands at the start of the part, if one does.
@@ -136,11 +225,26 @@ pub fn name(s: &[u8]) -> &[u8]
     }
 }
 
-// The component that stands at the start of the part bears the name. Where the name field does not begin with the name and a zero, the judge is
-// not asked; the zero is tested first, since one byte tells most names of another length apart. No component's name is longer than 255 bytes, and
-// no longer one is compared.
+// The same by the header's numbers alone, where a component is known to stand: its span is not summed again.
+pub fn bare_name(s: &[u8]) -> &[u8]
+    ensures { λ r. ⌜ now r ≡ nameOf (numbersOf (now (s .entry))) ⌝ }
+    ensures kept { λ _. ⌜ now (s .exit) ≡ now (s .entry) ⌝ }
+{
+    let j = numbers(s);
+    match j {
+        Judged::WellFormed(h) => {
+            let n = h.named;
+            number::part(s, 24, n)
+        }
+        Judged::IllFormed => &s[0..0],
+    }
+}
+
+// The component that stands at the start of the part, by its header's numbers, bears the name: its sum was taken already. Where the name field does
+// not begin with the name and a zero, the numbers are not judged; the zero is tested first, since one byte tells most names of another length apart.
+// No component's name is longer than 255 bytes, and no longer one is compared.
 pub fn is_named(s: &[u8], name: &[u8]) -> bool
-    ensures { λ b. ⌜ b ≡ bearsName (now (name .entry)) (judgeOf (now (s .entry))) ⌝ }
+    ensures { λ b. ⌜ b ≡ bearsName (now (name .entry)) (numbersOf (now (s .entry))) ⌝ }
     ensures kept { λ _. ⌜ (now (s .exit) ≡ now (s .entry)) × (now (name .exit) ≡ now (name .entry)) ⌝ }
 {
     let asked = name.len();
@@ -153,7 +257,7 @@ pub fn is_named(s: &[u8], name: &[u8]) -> bool
     if !number::equal_by_words(number::part(s, 24, asked), name) {
         return false;
     }
-    let j = judge(s);
+    let j = numbers(s);
     match j {
         Judged::WellFormed(h) => h.named == asked,
         Judged::IllFormed => false,

@@ -1,15 +1,14 @@
--- 16 without building the span: the magic at a place of the span stands in the name, in the content, or in the header's len and type.
+-- 16 without building the span: the magic at a place of the span stands in the name, in the content, or in the header, from its len to its checksum.
 use Prim.Native.Nat.{ℕ, zero, suc, _+_, _*_, _-_, _/_, _%_, _≤_, _<_}
-use native.Mathlib.Nat.{div-add-mod', mod-lt, mul-mod-left, mul-le-mul-right}
+use native.Mathlib.Nat.{div-add-mod', mod-lt, mul-le-mul-right}
 use native.Mathlib.Omega.{arith}
 use native.Mathlib.Decide.{decLe, decLt}
-use mathlib.Core.Path.{_≡_, refl, sym, ap, subst, _∙_}
-use mathlib.Core.List.{List, _++_, append-assoc}
+use mathlib.Core.Path.{_≡_, refl, sym, ap, _∙_}
+use mathlib.Core.List.{List, [], _++_, append-assoc}
 use mathlib.Core.Bool.{Bool, true, false}
 use lib.ListN.{length, getD, drop, replicate, length-append, length-drop, length-replicate, getD-replicate, List·getD-append}
 use lib.Seq.{take-append-le, drop-append-le, drop-drop, drop-at, getD-append-add}
 use Rattle.number.specs.Number.{beBytes}
-use Rattle.number.proofs.SameBytes.{eq-refl}
 use Rattle.component.specs.Component.{magic, startsWithMagic}
 use Rattle.number.specs.Lists.{any}
 use Rattle.walk.specs.Walk.{placesBelow, places, carries, nextMagic, buried, Place}
@@ -17,7 +16,7 @@ use Rattle.walk.proofs.Places.{no-places, below-ge, below-lt, below-unique}
 use Rattle.walk.proofs.Picks.{carries-fits, buried-of}
 use Rattle.walk.proofs.Hunting.{next-end, next-here, next-not, by-places, next-carries, carries-end}
 use Rattle.decide.specs.Code.{lead}
-use Rattle.edit.specs.Edit.{fieldSize, offsetFor, headerBytes, fieldBytes, spanBytes, buries}
+use Rattle.edit.specs.Edit.{fieldSize, offsetFor, headerBytes, fieldBytes, stating, sumFor, spanBytes, headerFor, buries}
 use Rattle.edit.proofs.Written.{field-room, field-most, length-header, length-field}
 use Rattle.edit.proofs.Filling.{carried, carries-first}
 use Rattle.edit.proofs.Theorems.{buries-exactly}
@@ -91,19 +90,6 @@ letter (suc (suc (suc (suc (suc (suc zero)))))) h = omega arith
 letter (suc (suc (suc (suc (suc (suc (suc zero))))))) h = omega arith
 letter (suc (suc (suc (suc (suc (suc (suc (suc j)))))))) h = absurd (omega arith)
 
--- No L after the first letter.
-one-l : (j : ℕ) → 0 < j → j < 8 → getD magic j 0 ≡ 76 → ⊥
-unfolding magic
-one-l zero h k e = omega arith
-one-l (suc zero) h k e = omega (arith, e)
-one-l (suc (suc zero)) h k e = omega (arith, e)
-one-l (suc (suc (suc zero))) h k e = omega (arith, e)
-one-l (suc (suc (suc (suc zero)))) h k e = omega (arith, e)
-one-l (suc (suc (suc (suc (suc zero))))) h k e = omega (arith, e)
-one-l (suc (suc (suc (suc (suc (suc zero)))))) h k e = omega (arith, e)
-one-l (suc (suc (suc (suc (suc (suc (suc zero))))))) h k e = omega (arith, e)
-one-l (suc (suc (suc (suc (suc (suc (suc (suc j)))))))) h k e = omega arith
-
 -- A byte that is no letter is in no magic.
 pub no-letter : (s : List ℕ) (q i : ℕ) → q ≤ i → i < q + 8 → getD s i 0 < 65 → carries s q ≡ false
 no-letter s q i h k z = go (carries s q) refl
@@ -128,15 +114,15 @@ module _ (name : List ℕ) (kind : ℕ) (content : List ℕ) where
   s = spanBytes name kind content
 
   abbrev head : List ℕ
-  head = headerBytes (length content) kind (offsetFor name)
+  head = headerFor name kind content
 
   in-header : (i : ℕ) → i < 24 → getD s i 0 ≡ getD head i 0
-  unfolding spanBytes
-  in-header i h = List·getD-append head (fieldBytes name ++ content) 0 i (omega (arith, length-header (length content) kind (offsetFor name)))
+  unfolding spanBytes stating
+  in-header i h = List·getD-append head (fieldBytes name ++ content) 0 i (omega (arith, length-header (length content) kind (sumFor name kind content) (offsetFor name)))
 
   -- The field's zeros.
   in-zeros : (i : ℕ) → 24 + length name ≤ i → i < offsetFor name → getD s i 0 ≡ 0
-  unfolding spanBytes fieldBytes
+  unfolding spanBytes stating fieldBytes
   in-zeros i h k =
       let e : s ≡ (head ++ name) ++ (replicate (fieldSize (length name) - length name) 0 ++ content) = simp append-assoc in
       let l : length (head ++ name) ≡ 24 + length name = simp (length-append, length-header) (omega arith) in
@@ -149,23 +135,19 @@ module _ (name : List ℕ) (kind : ℕ) (content : List ℕ) where
   -- In the name, and in the content.
 
   in-name : (k : ℕ) → k + 8 ≤ length name → carries s (24 + k) ≡ carries name k
-  unfolding spanBytes fieldBytes
+  unfolding spanBytes stating fieldBytes
   in-name k h =
       let e : s ≡ head ++ (name ++ (replicate (fieldSize (length name) - length name) 0 ++ content)) = simp append-assoc in
-      rw e (carries-part head name (replicate (fieldSize (length name) - length name) 0 ++ content) k (24 + k) (omega (arith, length-header (length content) kind (offsetFor name))) h)
+      rw e (carries-part head name (replicate (fieldSize (length name) - length name) 0 ++ content) k (24 + k) (omega (arith, length-header (length content) kind (sumFor name kind content) (offsetFor name))) h)
 
   in-content : (k : ℕ) → carries s (offsetFor name + k) ≡ carries content k
-  unfolding spanBytes carries
+  unfolding spanBytes stating carries
   in-content k =
       let e : s ≡ (head ++ fieldBytes name) ++ content = sym (append-assoc head (fieldBytes name) content) in
       let l : length (head ++ fieldBytes name) ≡ offsetFor name = simp (length-append, length-header, length-field) (omega arith) in
       rw (e, ← drop-drop k (offsetFor name) ((head ++ fieldBytes name) ++ content), drop-at (head ++ fieldBytes name) content (offsetFor name) l)
 
   -- The header's bytes that no magic holds.
-
-  byte-16 : getD s 16 0 ≡ 0
-  unfolding headerBytes magic beBytes
-  byte-16 = in-header 16 (omega arith)
 
   byte-20 : length name ≤ 255 → getD s 20 0 ≡ 0
   unfolding headerBytes magic beBytes
@@ -195,25 +177,21 @@ module _ (name : List ℕ) (kind : ℕ) (content : List ℕ) where
       odd : (n : ℕ) → (24 + (n + 1) * 16) % 256 ≡ 76 → ⊥
       odd n z = omega arith
 
-  in-magic : (q : ℕ) → q < 8 → getD s q 0 ≡ getD magic q 0
-  unfolding headerBytes
-  in-magic q h = in-header q (omega arith) ∙ List·getD-append magic _ 0 q (unfold magic in h)
+  -- In the header.
+  in-head : (q : ℕ) → q + 8 ≤ 24 → carries s q ≡ carries head q
+  unfolding spanBytes stating
+  in-head q h = carries-part [] head (fieldBytes name ++ content) q q (omega arith) (omega (arith, length-header (length content) kind (sumFor name kind content) (offsetFor name)))
 
-  -- Before byte 24 the magic stands at byte 8 or nowhere.
-  header-quiet : length name ≤ 255 → (q : ℕ) → 0 < q → q < 24 → (q ≡ 8 → ⊥) → carries s q ≡ false
-  header-quiet h q lo hi ne = go (decLt q 8) (decLe q 20) (decLe q 21) (decLe q 22) (carries s q) refl
+  -- From byte 13 on up to byte 24 no magic stands.
+  late-quiet : length name ≤ 255 → (q : ℕ) → 12 < q → q < 24 → carries s q ≡ false
+  late-quiet h q lo hi = go (decLe q 20) (decLe q 21) (decLe q 22) (carries s q) refl
     where
-      go : Dec (q < 8) → Dec (q ≤ 20) → Dec (q ≤ 21) → Dec (q ≤ 22) → (b : Bool) → carries s q ≡ b → carries s q ≡ false
-      go d₁ d₂ d₃ d₄ false e = e
-      go (yes l) d₂ d₃ d₄ true e = absurd (one-l q lo l (sym (in-magic q l) ∙ carries-first s q e))
-      go (no l) (yes m) d₃ d₄ true e = by (decLe q 16)
-        where
-          by : Dec (q ≤ 16) → carries s q ≡ false
-          by (yes k) = no-letter s q 16 k (omega arith) (omega (arith, byte-16))
-          by (no k) = no-letter s q 20 m (omega arith) (omega (arith, byte-20 h))
-      go (no l) (no m) (yes k) d₄ true e = no-letter s q 21 k (omega arith) (omega (arith, byte-21 h))
-      go (no l) (no m) (no k) (yes j) true e = no-letter s q 22 j (omega arith) (byte-22 h)
-      go (no l) (no m) (no k) (no j) true e = let z : q ≡ 23 = omega arith in absurd (byte-23 (rw z at (carries-first s q e)))
+      go : Dec (q ≤ 20) → Dec (q ≤ 21) → Dec (q ≤ 22) → (b : Bool) → carries s q ≡ b → carries s q ≡ false
+      go d₂ d₃ d₄ false e = e
+      go (yes m) d₃ d₄ true e = no-letter s q 20 m (omega arith) (omega (arith, byte-20 h))
+      go (no m) (yes k) d₄ true e = no-letter s q 21 k (omega arith) (omega (arith, byte-21 h))
+      go (no m) (no k) (yes j) true e = no-letter s q 22 j (omega arith) (byte-22 h)
+      go (no m) (no k) (no j) true e = let z : q ≡ 23 = omega arith in absurd (byte-23 (rw z at (carries-first s q e)))
 
   -- From byte 24 up to the content the magic stands in the name or nowhere.
   field-quiet : (q : ℕ) → 24 ≤ q → q < offsetFor name → 24 + length name < q + 8 → carries s q ≡ false
@@ -222,56 +200,6 @@ module _ (name : List ℕ) (kind : ℕ) (content : List ℕ) where
       go : Dec (24 + length name ≤ q) → carries s q ≡ false
       go (yes h) = no-letter s q q (omega arith) (omega arith) (omega (arith, in-zeros q h hi))
       go (no h) = no-letter s q (24 + length name) (omega arith) k (omega (arith, in-zeros (24 + length name) (omega arith) (omega (arith, field-room (length name)))))
-
-  -- At byte 8 stand the header's len and type.
-
-  spelt : (length content % 4294967296 ≡ 0x4C415243) → kind % 4294967296 ≡ 0x48495645 → carries s 8 ≡ true
-  unfolding carries startsWithMagic spanBytes headerBytes magic beBytes
-  spelt l k =
-      let n : ℕ = length content in
-      rw (d3 n l, d2 n l, d1 n l, d0 n l, k3 kind k, k2 kind k, k1 kind k, k0 kind k) (eq-refl magic)
-    where
-      d3 : (n : ℕ) → n % 4294967296 ≡ 0x4C415243 → n / 256 / 256 / 256 % 256 ≡ 0x4C
-      d3 n e = omega arith
-
-      d2 : (n : ℕ) → n % 4294967296 ≡ 0x4C415243 → n / 256 / 256 % 256 ≡ 0x41
-      d2 n e = omega arith
-
-      d1 : (n : ℕ) → n % 4294967296 ≡ 0x4C415243 → n / 256 % 256 ≡ 0x52
-      d1 n e = omega arith
-
-      d0 : (n : ℕ) → n % 4294967296 ≡ 0x4C415243 → n % 256 ≡ 0x43
-      d0 n e = omega arith
-
-      k3 : (n : ℕ) → n % 4294967296 ≡ 0x48495645 → n / 256 / 256 / 256 % 256 ≡ 0x48
-      k3 n e = omega arith
-
-      k2 : (n : ℕ) → n % 4294967296 ≡ 0x48495645 → n / 256 / 256 % 256 ≡ 0x49
-      k2 n e = omega arith
-
-      k1 : (n : ℕ) → n % 4294967296 ≡ 0x48495645 → n / 256 % 256 ≡ 0x56
-      k1 n e = omega arith
-
-      k0 : (n : ℕ) → n % 4294967296 ≡ 0x48495645 → n % 256 ≡ 0x45
-      k0 n e = omega arith
-
-  spelling : carries s 8 ≡ true → (length content % 4294967296 ≡ 0x4C415243) × (kind % 4294967296 ≡ 0x48495645)
-  unfolding headerBytes magic beBytes
-  spelling c = (
-    joined (length content) (sym (in-header 8 (omega arith)) ∙ at 0 (omega arith)) (sym (in-header 9 (omega arith)) ∙ at 1 (omega arith))
-        (sym (in-header 10 (omega arith)) ∙ at 2 (omega arith)) (sym (in-header 11 (omega arith)) ∙ at 3 (omega arith)),
-    typed kind (sym (in-header 12 (omega arith)) ∙ at 4 (omega arith)) (sym (in-header 13 (omega arith)) ∙ at 5 (omega arith))
-        (sym (in-header 14 (omega arith)) ∙ at 6 (omega arith)) (sym (in-header 15 (omega arith)) ∙ at 7 (omega arith)),
-  )
-    where
-      at : (j : ℕ) → j < 8 → getD s (8 + j) 0 ≡ getD magic j 0
-      at j h = carried s 8 c j h
-
-      joined : (n : ℕ) → n / 256 / 256 / 256 % 256 ≡ 0x4C → n / 256 / 256 % 256 ≡ 0x41 → n / 256 % 256 ≡ 0x52 → n % 256 ≡ 0x43 → n % 4294967296 ≡ 0x4C415243
-      joined n w x y z = omega arith
-
-      typed : (n : ℕ) → n / 256 / 256 / 256 % 256 ≡ 0x48 → n / 256 / 256 % 256 ≡ 0x49 → n / 256 % 256 ≡ 0x56 → n % 256 ≡ 0x45 → n % 4294967296 ≡ 0x48495645
-      typed n w x y z = omega arith
 
   -- 16, by the parts.
 
@@ -298,25 +226,43 @@ module _ (name : List ℕ) (kind : ℕ) (content : List ℕ) where
         found : (i : ℕ) → carries content (lead a (offsetFor name) + i * a) ≡ true → buries a s ≡ true
         found i c = buries-exactly a pos s .1 (offsetFor name + (lead a (offsetFor name) + i * a), lead-at a (offsetFor name) i pos, omega arith, in-content (lead a (offsetFor name) + i * a) ∙ c)
 
-    pub buries-spelt : 8 % a ≡ 0 → length content % 4294967296 ≡ 0x4C415243 → kind % 4294967296 ≡ 0x48495645 → buries a s ≡ true
-    buries-spelt z l k = let d = div-add-mod' 8 a in buries-exactly a pos s .1 (8, (8 / a, omega arith), omega arith, spelt l k)
+    pub buries-head : nextMagic head a (0 + a) 24 < 24 → buries a s ≡ true
+    buries-head h =
+        let (i, e) = next-at head a pos (0 + a) 24 h in
+        let c = next-carries head a pos (0 + a) 24 h in
+        found i (rw e at c)
+      where
+        found : (i : ℕ) → carries head (0 + a + i * a) ≡ true → buries a s ≡ true
+        found i c =
+            let f = carries-fits head (0 + a + i * a) c in
+            let l = length-header (length content) kind (sumFor name kind content) (offsetFor name) in
+            buries-exactly a pos s .1 (0 + a + i * a, (suc i, omega arith), omega arith, in-head (0 + a + i * a) (omega arith) ∙ c)
+
+    -- No place of the header, up to byte 12, carries the magic: there is none, or the hunt has found none.
+
+    none-there : 16 ≤ a → (q : ℕ) → Place a q → 0 < q → q ≤ 12 → carries s q ≡ false
+    none-there big q (zero, e) lo hi = absurd (omega arith)
+    none-there big q (suc j, e) lo hi = absurd (omega arith)
+
+    -- From an alignment of 16 on no byte of the header matters: the magic stands at no place of it above 0, whatever its len, its type and its sum.
+    pub header-clear : 16 ≤ a → length name ≤ 255 → (q : ℕ) → Place a q → 0 < q → q < 24 → carries s q ≡ false
+    header-clear big short q pl lo hi = go (decLe q 12)
+      where
+        go : Dec (q ≤ 12) → carries s q ≡ false
+        go (yes l) = none-there big q pl lo l
+        go (no l) = late-quiet short q (omega arith) hi
+
+    pub none-found : 24 ≤ nextMagic head a (0 + a) 24 → (q : ℕ) → Place a q → 0 < q → q ≤ 12 → carries s q ≡ false
+    none-found h q (zero, e) lo hi = absurd (omega arith)
+    none-found h q (suc j, e) lo hi =
+        let z : 0 + a + j * a ≡ q = omega arith in
+        in-head q (omega arith) ∙ rw (← z) (next-quiet head a pos (0 + a) 24 h j (omega arith))
 
     pub buries-not : length name ≤ 255 → length name ≤ nextMagic name a (lead a 24) (length name) → length content ≤ nextMagic content a (lead a (offsetFor name)) (length content)
-        → (8 % a ≡ 0 → length content % 4294967296 ≡ 0x4C415243 → kind % 4294967296 ≡ 0x48495645 → ⊥) → buries a s ≡ false
+        → ((q : ℕ) → Place a q → 0 < q → q ≤ 12 → carries s q ≡ false) → buries a s ≡ false
     unfolding buries
-    buries-not short n c h = buried-of s a pos 0 (length s) (λ q pl lo hi. go q pl lo (decLt q 24) (decLt q (offsetFor name)) (decLe (q + 8) (24 + length name))) (0, omega arith)
+    buries-not short n c h = buried-of s a pos 0 (length s) (λ q pl lo hi. go q pl lo (decLe q 12) (decLt q 24) (decLt q (offsetFor name)) (decLe (q + 8) (24 + length name))) (0, omega arith)
       where
-        eight : (q : ℕ) → Place a q → q ≡ 8 → (b : Bool) → carries s q ≡ b → b ≡ false
-        eight q pl e false d = refl
-        eight q (j, p) e true d =
-            let y = spelling (rw e at d) in
-            absurd (h (subst (λ (x : ℕ). x % a ≡ 0) (sym p ∙ e) (mul-mod-left j a)) (y .0) (y .1))
-
-        other : (q : ℕ) → Place a q → 0 < q → q < 24 → Dec (q < 8) → Dec (8 < q) → carries s q ≡ false
-        other q pl lo l (yes e) d = header-quiet short q lo l (λ z. omega arith)
-        other q pl lo l (no e) (yes f) = header-quiet short q lo l (λ z. omega arith)
-        other q pl lo l (no e) (no f) = eight q pl (omega arith) (carries s q) refl
-
         inName : (q : ℕ) → Place a q → 24 ≤ q → q + 8 ≤ 24 + length name → carries s q ≡ false
         inName q pl l k = let (i, e) = lead-on a 24 q pos pl l in
             rw e (in-name (lead a 24 + i * a) (omega arith) ∙ next-quiet name a pos (lead a 24) (length name) n i (omega arith))
@@ -328,8 +274,9 @@ module _ (name : List ℕ) (kind : ℕ) (content : List ℕ) where
             past i (yes k) = next-quiet content a pos (lead a (offsetFor name)) (length content) c i k
             past i (no k) = carries-end content (lead a (offsetFor name) + i * a) (omega arith)
 
-        go : (q : ℕ) → Place a q → 0 < q → Dec (q < 24) → Dec (q < offsetFor name) → Dec (q + 8 ≤ 24 + length name) → carries s q ≡ false
-        go q pl lo (yes l) d₂ d₃ = other q pl lo l (decLt q 8) (decLt 8 q)
-        go q pl lo (no l) (yes m) (yes k) = inName q pl (omega arith) k
-        go q pl lo (no l) (yes m) (no k) = field-quiet q (omega arith) m (omega arith)
-        go q pl lo (no l) (no m) d₃ = inContent q pl (omega arith)
+        go : (q : ℕ) → Place a q → 0 < q → Dec (q ≤ 12) → Dec (q < 24) → Dec (q < offsetFor name) → Dec (q + 8 ≤ 24 + length name) → carries s q ≡ false
+        go q pl lo (yes y) d₁ d₂ d₃ = h q pl lo y
+        go q pl lo (no y) (yes l) d₂ d₃ = late-quiet short q (omega arith) l
+        go q pl lo (no y) (no l) (yes m) (yes k) = inName q pl (omega arith) k
+        go q pl lo (no y) (no l) (yes m) (no k) = field-quiet q (omega arith) m (omega arith)
+        go q pl lo (no y) (no l) (no m) d₃ = inContent q pl (omega arith)

@@ -1,2 +1,3 @@
 pub mod Burying
 pub mod Choosing
+pub mod Worked

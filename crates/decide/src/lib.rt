@@ -6,12 +6,12 @@ use room::Space;
 use terms::Refusal;
 use terms::Region;
 ghost use mathlib.Core.Path.{_≡_};
-ghost use Prim.Native.Nat.{ℕ, _≤_};
+ghost use Prim.Native.Nat.{ℕ, _+_, _≤_};
 ghost use lib.ListN.{length};
 ghost use lib.Dec.{ltb};
 ghost use Rattle.walk.specs.Walk.{nextMagic};
 ghost use Rattle.terms.specs.Terms.{refusedBy};
-ghost use Rattle.edit.specs.Edit.{spanBytes, buries as buriesOf};
+ghost use Rattle.edit.specs.Edit.{headerFor, spanBytes, buries as buriesOf};
 ghost use Rattle.room.specs.Room.{slotAmong};
 ghost use Rattle.decide.specs.Code.{lead as leadOf, Directed, choiceOf, removal, addChoice, replaceChoice, removeChoice, decided};
 
@@ -50,7 +50,15 @@ fn hides(align: usize, at: usize, part: &[u8]) -> bool
     walk::next_magic(part, align, lead(align, at), n) < n
 }
 
-// The span to be written holds the magic at a place above 0. At an alignment of 8 or less, the header's len and type may spell it.
+// The header to be written, with its sum, holds the magic at a place above 0.
+fn heads(align: usize, name: &[u8], kind: u32, content: &[u8]) -> bool
+    ensures { λ b. ⌜ b ≡ ltb (nextMagic (headerFor (now (name .entry)) kind (now (content .entry))) align (0 + align) 24) 24 ⌝ }
+{
+    let h = edit_header::header(name, kind, content);
+    walk::next_after(&h, align, 0, 24) < 24
+}
+
+// The span to be written holds the magic at a place above 0. From an alignment of 16 on none of its header's bytes matters, and no sum is taken.
 fn buries(align: usize, name: &[u8], kind: u32, content: &[u8]) -> bool
     requires { ⌜ length (now name) ≤ 255 ⌝ }
     ensures { λ b. ⌜ b ≡ buriesOf align (spanBytes (now (name .entry)) kind (now (content .entry))) ⌝ }
@@ -64,13 +72,10 @@ fn buries(align: usize, name: &[u8], kind: u32, content: &[u8]) -> bool
     if hides(align, room::offset_for(name), content) {
         return true;
     }
-    if 8 % align != 0 {
+    if 16 <= align {
         return false;
     }
-    if content.len() % 4294967296 != 0x4C415243 {
-        return false;
-    }
-    kind == 0x48495645
+    heads(align, name, kind, content)
 }
 
 // A refusal that tells place 0.

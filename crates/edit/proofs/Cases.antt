@@ -4,29 +4,26 @@ use mathlib.Core.Path.{_≡_, refl, ap, _∙_}
 use mathlib.Core.List.{List, [], _∷_, _++_}
 use lib.ListN.{length, replicate}
 use lib.Dec.{lit≤}
-use Rattle.number.specs.Number.{be, beBytes}
-use Rattle.number.specs.Bytes.{eqBytes}
-use Rattle.number.specs.Tests.{all}
-use Rattle.bench_image.specs.BenchImage.{larchive, cal, log, head, slot0, slot192, region, regionA}
-use Rattle.component.specs.Names.{beforeZero, nameTests, nameFits, fieldTests, fieldFits}
-use Rattle.component.specs.Component.{magic, startsWithMagic, componentOf, headerTests, wellFormed, fields, judge}
+use Rattle.bench_image.specs.BenchImage.{larchive, cal, log, head, slot0, slot192, region, regionA, regionSummed}
+use Rattle.component.specs.Component.{magic}
 use Rattle.number.specs.Lists.{any, keep, noTwo}
 use Rattle.walk.specs.Walk.{Entry, placesBelow, places, carries, buried, plain, orElse, first, onward, step, follow, steps, listingFrom, plainListing}
 use Rattle.lookup.specs.Lookup.{bears}
 use Rattle.strict.specs.Strict.{limit, takes, stray, strays, Accepted}
 use Rattle.strict.specs.Slots.{start}
-use Rattle.edit.specs.Edit.{fieldSize, offsetFor, headerBytes, fieldBytes, spanBytes, buries, runs, lowest, slotOf, adding, renewing, clearing, Reply, refusal, done, Outcome, carriedOut, add, replace, remove}
+use Rattle.edit.specs.Edit.{fieldSize, offsetFor, headerBytes, fieldBytes, stating, sumFor, spanBytes, buries, runs, lowest, slotOf, adding, renewing, clearing, Reply, refusal, done, Outcome, carriedOut, add, replace, remove}
 use Rattle.edit.proofs.Theorems.{add-on, replace-on, remove-on}
+use Rattle.component.proofs.Opened.{judging}
 
 -- Names of 15, 16 and 255 bytes give offsets 40, 56 and 280.
 offsets : offsetFor (replicate 15 0x78) ∷ offsetFor (replicate 16 0x78) ∷ offsetFor (replicate 255 0x78) ∷ [] ≡ 40 ∷ 56 ∷ 280 ∷ []
 unfolding fieldSize
 offsets = refl
 
--- Bench image A's components are what add writes.
+-- Bench image A's components, with their sums, are what add writes.
 written-A : (spanBytes (cal 0x32) 0xFFFFFFFF (replicate 100 0) ++ replicate 52 0xFF) ++ (spanBytes (cal 0x33) 0xFFFFFFFF (replicate 24 0) ++ replicate 2816 0xFF)
-    ≡ regionA
-unfolding beBytes magic larchive cal head slot0 slot192 region fieldSize headerBytes fieldBytes spanBytes
+    ≡ regionSummed
+unfolding judging larchive cal head slot0 slot192 region fieldSize headerBytes fieldBytes stating sumFor spanBytes
 written-A = refl
 
 -- LARCHIVE from byte n of the content on.
@@ -34,25 +31,25 @@ unfoldable pub hidingAt : ℕ → List ℕ
 hidingAt n = replicate n 0 ++ magic
 
 unfoldable here : ℕ → ℕ → ℕ → Entry
-here p d n = record { place = p; component = record { offset = 40; len = n; kind = 0xFFFFFFFF; name = cal d; content = replicate n 0 } }
+here p d n = record { place = p; component = record { offset = 40; len = n; kind = 0xFFFFFFFF; checksum = 0; name = cal d; content = replicate n 0 } }
 
 unfoldable listA : List Entry
 listA = here 0 0x32 100 ∷ here 192 0x33 24 ∷ []
 
 listed-64 : plainListing regionA 64 ≡ listA
-unfolding any keep be beBytes eqBytes magic startsWithMagic beforeZero all nameTests nameFits fieldTests fieldFits componentOf headerTests wellFormed fields judge placesBelow places carries plain orElse first onward step follow steps listingFrom bears takes stray strays noTwo fieldSize headerBytes fieldBytes spanBytes larchive cal head slot0 slot192 region here listA
+unfolding judging any keep placesBelow places carries plain orElse first onward step follow steps listingFrom bears takes stray strays noTwo fieldSize headerBytes fieldBytes spanBytes larchive cal head slot0 slot192 region here listA
 listed-64 = refl
 
 accepted-64 : Accepted regionA 64
-unfolding any keep be beBytes eqBytes magic startsWithMagic beforeZero all nameTests nameFits fieldTests fieldFits componentOf headerTests wellFormed fields judge placesBelow places carries plain orElse first onward step follow steps listingFrom bears takes stray strays noTwo fieldSize headerBytes fieldBytes spanBytes larchive cal head slot0 slot192 region here listA
+unfolding judging any keep placesBelow places carries plain orElse first onward step follow steps listingFrom bears takes stray strays noTwo fieldSize headerBytes fieldBytes spanBytes larchive cal head slot0 slot192 region here listA
 accepted-64 = record { all-taken = refl; few = lit≤ tt; told-apart = refl }
 
 listed-16 : plainListing regionA 16 ≡ listA
-unfolding any keep be beBytes eqBytes magic startsWithMagic beforeZero all nameTests nameFits fieldTests fieldFits componentOf headerTests wellFormed fields judge placesBelow places carries plain orElse first onward step follow steps listingFrom bears takes stray strays noTwo fieldSize headerBytes fieldBytes spanBytes larchive cal head slot0 slot192 region here listA
+unfolding judging any keep placesBelow places carries plain orElse first onward step follow steps listingFrom bears takes stray strays noTwo fieldSize headerBytes fieldBytes spanBytes larchive cal head slot0 slot192 region here listA
 listed-16 = refl
 
 accepted-16 : Accepted regionA 16
-unfolding any keep be beBytes eqBytes magic startsWithMagic beforeZero all nameTests nameFits fieldTests fieldFits componentOf headerTests wellFormed fields judge placesBelow places carries plain orElse first onward step follow steps listingFrom bears takes stray strays noTwo fieldSize headerBytes fieldBytes spanBytes larchive cal head slot0 slot192 region here listA
+unfolding judging any keep placesBelow places carries plain orElse first onward step follow steps listingFrom bears takes stray strays noTwo fieldSize headerBytes fieldBytes spanBytes larchive cal head slot0 slot192 region here listA
 accepted-16 = record { all-taken = refl; few = lit≤ tt; told-apart = refl }
 
 -- An edit of bench image A's region, from its listing.
@@ -94,7 +91,7 @@ pub bench :
     ∷ add limit regionA 16 (replicate 8 0x78 ++ magic) 0x50 [] .reply
     ∷ []
     ≡ done 0 ∷ refusal 17 0 ∷ done 256 ∷ refusal 17 0 ∷ refusal 16 0 ∷ done 256 ∷ done 192 ∷ refusal 10 0 ∷ refusal 10 0 ∷ refusal 15 0 ∷ refusal 14 0 ∷ refusal 16 0 ∷ []
-unfolding any beBytes eqBytes magic startsWithMagic all nameTests nameFits placesBelow places carries buried onward bears start fieldSize headerBytes fieldBytes spanBytes buries runs lowest slotOf adding renewing clearing carriedOut larchive cal head slot0 slot192 region log hidingAt here listA
+unfolding judging any placesBelow places carries buried onward bears start fieldSize headerBytes fieldBytes stating sumFor spanBytes buries runs lowest slotOf adding renewing clearing carriedOut larchive cal head slot0 slot192 region log hidingAt here listA
 bench =
     and (told (replaces (cal 0x32) (replicate 152 0))) (
     and (told (replaces (cal 0x32) (replicate 153 0))) (

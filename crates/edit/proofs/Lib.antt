@@ -1,6 +1,7 @@
 pub mod Worked
 pub mod Lists
 pub mod Written
+pub mod Sums
 pub mod Filling
 pub mod Runs
 pub mod Decisions

@@ -22,8 +22,8 @@ use Rattle.strict.proofs.Frames.{mem-guarded, still-sound}
 use Rattle.strict.proofs.Slots.{Clear, same-slot, hit-own, guarded-rising, slot-clear}
 use Rattle.strict.proofs.Bearing.{lone}
 use Rattle.strict.proofs.Accepting.{taken-sound, walks-agree, accepted-context-free}
-use Rattle.edit.specs.Edit.{Run, Slot, slotOf, freeRuns, lowest, buries, spanBytes, filled, putIn, instead, without, made, HeldAt, Addable}
-use Rattle.edit.proofs.Written.{Fit, name-fit, length-span, filled-length, filled-ones}
+use Rattle.edit.specs.Edit.{Run, Slot, slotOf, freeRuns, lowest, buries, spanBytes, filled, putIn, instead, without, made, HeldAt, Addable, Put}
+use Rattle.edit.proofs.Written.{Fit, name-fit, length-span, filled-length, filled-put, filled-ones}
 use Rattle.edit.proofs.Lists.{put-instead, put-mem, length-put, length-instead, apart-put, apart-instead, keep-put, keep-instead, keep-without, bears-not}
 use Rattle.edit.proofs.Filling.{Room, inRun, in-true, in-of, out-after, out-before, carries-first, outside, frame, rest-same, new-listed, alone, new-listing, new-sound}
 use Rattle.edit.proofs.Runs.{row, Gap, mem-runs, lowest-some, lowest-least, Own, slot-own, slot-within, gap-room, own-room}
@@ -55,6 +55,8 @@ pub record Added (r : List ℕ) (a : ℕ) (name : List ℕ) (kind : ℕ) (put : 
   pub others : Others r a name r′
   -- No byte outside the new slot changed.
   pub slot : Spoilt (λ q. eqb q p) r′ a r
+  -- The component stands there, with its sum.
+  pub written : Put r′ p (spanBytes name kind put)
   -- After the written span, every byte of the new slot is 0xFF.
   pub ones : (i : ℕ) → hit (λ q. eqb q p) r′ a i ≡ true → p + length (spanBytes name kind put) ≤ i → getD r′ i 0 ≡ 255
   -- Nothing stood there.
@@ -77,6 +79,8 @@ pub record Replaced (r : List ℕ) (a : ℕ) (name put : List ℕ) (p : ℕ) (r�
   pub others : Others r a name r′
   -- No byte outside the slot changed.
   pub slot : Spoilt (λ q. eqb q p) r a r′
+  -- The component stands there, with its sum.
+  pub written : Put r′ p (spanBytes name (old .component .kind) put)
   -- After the written span, every byte of the slot is 0xFF.
   pub ones : (i : ℕ) → hit (λ q. eqb q p) r a i ≡ true → p + length (spanBytes name (old .component .kind) put) ≤ i → getD r′ i 0 ≡ 255
 
@@ -200,6 +204,7 @@ module _ (r : List ℕ) (a : ℕ) (big : 8 ≤ a) (acc : Accepted r a) (name : L
         (λ n h. rw listed (keep-put (bears n) (at (x .from) name kind put) L (bears-not n (at (x .from) name kind put) h)))
         (λ t m h i le lt. outside r a big sound x room s (mem .2) i (beside i (gap .sides t m) le lt));
     slot = record { alike = sym (filled-length r x s (mem .2) (room .inside)); rest = λ i e. go i e (inRun x i) refl };
+    written = filled-put r x s (mem .2) (room .inside);
     ones = λ i e h. filled-ones r x s (mem .2) (room .inside) i h (in-run i e (omega arith));
     fresh = λ u m e. true≢false (sym (in-of x (x .from) (omega arith) (room .long)) ∙ rw e at (clear u m));
     held = (mem .1, x, mem .0, omega arith, mem .2);
@@ -337,6 +342,7 @@ module _ (r : List ℕ) (a : ℕ) (big : 8 ≤ a) (acc : Accepted r a) (name : L
           (λ n h. rw listed₃ (keep-instead (bears n) t₃ L₂ (bears-not n t₃ h) (not-there n h)))
           (λ t m h i le lt. outside r a big sound₂ (z .run) room₂ s₃ fits i (other-out t m h i le lt));
       slot = slot₂ s₃ fits;
+      written = filled-put r (z .run) s₃ fits (room₂ .inside);
       ones = λ i e h. filled-ones r (z .run) s₃ fits (room₂ .inside) i h (in-true (z .run) i (sym (own₂ i) ∙ e) .1);
     }
 

@@ -5,17 +5,15 @@ use mathlib.Core.List.{List, [], _∷_, _++_}
 use mathlib.Core.Bool.{true, false}
 use mathlib.Core.Option.{some, none}
 use lib.ListN.{replicate}
-use Rattle.number.specs.Number.{beBytes}
 use Rattle.number.specs.Bytes.{eqBytes, splice}
-use Rattle.number.specs.Tests.{all}
 use Rattle.number.specs.Lists.{any}
-use Rattle.component.specs.Names.{nameTests, nameFits}
 use Rattle.component.specs.Component.{magic, startsWithMagic}
 use Rattle.walk.specs.Walk.{Entry, placesBelow, places, carries, buried, onward}
 use Rattle.lookup.specs.Lookup.{bears}
 use Rattle.strict.specs.Strict.{limit}
-use Rattle.edit.specs.Edit.{Run, holds, fieldSize, headerBytes, fieldBytes, spanBytes, buries, runs, lowest, filled, adding, renewing, clearing, write, done, carriedOut, made}
+use Rattle.edit.specs.Edit.{Run, holds, fieldSize, headerBytes, fieldBytes, stating, sumFor, spanBytes, buries, runs, lowest, filled, adding, renewing, clearing, write, done, carriedOut, made}
 use Rattle.edit.specs.Table.{decisionNumber}
+use Rattle.component.proofs.Opened.{judging}
 
 abbrev bytes : ℕ → ℕ → Run
 bytes n m = record { from = n; to = m }
@@ -25,12 +23,12 @@ fields : fieldSize 1 ∷ fieldSize 15 ∷ fieldSize 16 ∷ fieldSize 31 ∷ fiel
 unfolding fieldSize
 fields = refl
 
--- The component `ab` of type 0x10 with the bytes 7, 8, 9: LARCHIVE, len 3, the type, the checksum 0, offset 40, the name field, the content.
+-- The component `ab` of type 0x10 with the bytes 7, 8, 9: LARCHIVE, len 3, the type, the sum 868 (0x0364), offset 40, the name field, the content.
 span : spanBytes (97 ∷ 98 ∷ []) 0x10 (7 ∷ 8 ∷ 9 ∷ [])
-    ≡ (76 ∷ 65 ∷ 82 ∷ 67 ∷ 72 ∷ 73 ∷ 86 ∷ 69 ∷ 0 ∷ 0 ∷ 0 ∷ 3 ∷ 0 ∷ 0 ∷ 0 ∷ 16 ∷ 0 ∷ 0 ∷ 0 ∷ 0 ∷ 0 ∷ 0 ∷ 0 ∷ 40 ∷ [])
+    ≡ (76 ∷ 65 ∷ 82 ∷ 67 ∷ 72 ∷ 73 ∷ 86 ∷ 69 ∷ 0 ∷ 0 ∷ 0 ∷ 3 ∷ 0 ∷ 0 ∷ 0 ∷ 16 ∷ 0 ∷ 0 ∷ 0x03 ∷ 0x64 ∷ 0 ∷ 0 ∷ 0 ∷ 40 ∷ [])
     ++ (97 ∷ 98 ∷ replicate 14 0)
     ++ (7 ∷ 8 ∷ 9 ∷ [])
-unfolding fieldSize headerBytes fieldBytes spanBytes magic beBytes
+unfolding judging fieldSize headerBytes fieldBytes stating sumFor spanBytes
 span = refl
 
 -- 16: LARCHIVE at byte 16 of a span at align 16, at byte 15, at its start alone, cut short at its end, and at byte 16 at align 32.
@@ -59,7 +57,7 @@ unfolding carriedOut filled splice
 written = refl
 
 abbrev nothing : ℕ → Entry
-nothing p = record { place = p; component = record { offset = 0; len = 0; kind = 0; name = []; content = [] } }
+nothing p = record { place = p; component = record { offset = 0; len = 0; kind = 0; checksum = 0; name = []; content = [] } }
 
 cleared : carriedOut eight (clearing (some (record { entry = nothing 2; run = bytes 2 6 }))) ≡ record { reply = done 2; bytes = 1 ∷ 2 ∷ 255 ∷ 255 ∷ 255 ∷ 255 ∷ 7 ∷ 8 ∷ [] }
 unfolding carriedOut clearing filled splice
@@ -94,7 +92,7 @@ add-order :
     ∷ adds 2 ab (replicate 24 0) []
     ∷ []
     ≡ 14 ∷ 15 ∷ 13 ∷ 16 ∷ 17 ∷ 0 ∷ []
-unfolding any all nameTests nameFits bears eqBytes buries buried carries places placesBelow magic startsWithMagic beBytes fieldSize headerBytes fieldBytes spanBytes onward runs lowest adding
+unfolding judging any bears buries buried carries places placesBelow fieldSize headerBytes fieldBytes stating sumFor spanBytes onward runs lowest adding
 add-order = refl
 
 -- At 1,023 components an add goes on, here to 17; at 1,024 it is refused by 13. With document 01's limit, at 255 and at 256.
@@ -105,7 +103,7 @@ add-full :
     ∷ adds 256 (97 ∷ []) [] (replicate 256 there)
     ∷ []
     ≡ 17 ∷ 13 ∷ 17 ∷ 13 ∷ []
-unfolding any all nameTests nameFits bears eqBytes buries buried carries places placesBelow magic startsWithMagic beBytes fieldSize headerBytes fieldBytes spanBytes onward runs lowest adding
+unfolding judging any bears buries buried carries places placesBelow fieldSize headerBytes fieldBytes stating sumFor spanBytes onward runs lowest adding
 add-full = refl
 
 abbrev replaces : List ℕ → ℕ
@@ -113,5 +111,5 @@ replaces content = decisionNumber (renewing 16 ab content (some (record { entry 
 
 replace-order : decisionNumber (renewing 16 ab [] none) ∷ replaces (hiding ++ replicate 65 0) ∷ replaces (replicate 25 0) ∷ replaces (replicate 24 0) ∷ []
     ≡ 10 ∷ 16 ∷ 17 ∷ 0 ∷ []
-unfolding any buries buried carries places placesBelow magic startsWithMagic eqBytes beBytes fieldSize headerBytes fieldBytes spanBytes renewing
+unfolding judging any buries buried carries places placesBelow fieldSize headerBytes fieldBytes stating sumFor spanBytes renewing
 replace-order = refl

@@ -1,14 +1,14 @@
 -- A component that was written is judged to be what was written (the round trip); and the bytes of a region with a slot written anew.
 use Prim.Native.Nat.{ℕ, zero, suc, _+_, _*_, _-_, _%_, _^_, _≤_, _<_}
 use native.Mathlib.Omega.{arith}
-use mathlib.Core.Path.{_≡_, refl, ap, _∙_}
+use mathlib.Core.Path.{_≡_, refl, sym, ap, _∙_}
 use mathlib.Core.List.{List, [], _∷_, _++_, append-assoc}
 use mathlib.Core.Bool.{Bool, true, false, cond, false≢true}
 use mathlib.Core.Option.{some}
 use lib.ListN.{length, getD, take, drop, replicate, length-drop, length-append, length-replicate, getD-replicate, List·getD-append}
 use lib.Seq.{getD-take, getD-drop, take-at, drop-at, getD-append-add, length-take-le, drop-drop}
 use lib.Dec.{leb, eqb}
-use borrow.Author.Tests.{leb-true, le-leb, lt-ltb, ne-eqb}
+use borrow.Author.Tests.{leb-true, le-leb, lt-ltb, ne-eqb, eq-eqb}
 use Rattle.number.specs.Number.{be, beBytes}
 use Rattle.number.specs.Bytes.{eqBytes, splice}
 use Rattle.number.specs.Tests.{all}
@@ -16,9 +16,11 @@ use Rattle.number.proofs.Digits.{length-beBytes, be-beBytes}
 use Rattle.number.proofs.Passing.{passes}
 use Rattle.number.specs.Letters.{isPrintable}
 use Rattle.component.specs.Names.{isZero, nameTests, nameFits, beforeZero, fieldTests, fieldFits}
+use Rattle.component.specs.Sums.{total, unstated, spanSum, checksumOf, sumFits}
 use Rattle.component.specs.Component.{magic, startsWithMagic, lenOf, kindOf, offsetOf, nameField, componentOf, judge}
 use Rattle.component.proofs.Judging.{unformed}
-use Rattle.edit.specs.Edit.{fieldSize, offsetFor, headerBytes, fieldBytes, spanBytes, Run, filled, made}
+use Rattle.component.proofs.Summing.{total-append, total-unstated}
+use Rattle.edit.specs.Edit.{fieldSize, offsetFor, headerBytes, fieldBytes, stating, sumFor, spanBytes, Run, filled, made, Put}
 
 -- The field holds a byte more than the name, has 16 to 256 bytes, and its size is a multiple of 16.
 
@@ -82,45 +84,58 @@ pub length-magic : length magic ≡ 8
 unfolding magic
 length-magic = refl
 
-pub length-header : (len kind offset : ℕ) → length (headerBytes len kind offset) ≡ 24
+pub length-header : (len kind sum offset : ℕ) → length (headerBytes len kind sum offset) ≡ 24
 unfolding headerBytes magic
-length-header len kind offset = simp (length-append, length-beBytes) refl
+length-header len kind sum offset = simp (length-append, length-beBytes) refl
 
 pub length-field : (name : List ℕ) → length (fieldBytes name) ≡ fieldSize (length name)
 unfolding fieldBytes
 length-field name = simp (length-append, length-replicate) (omega (arith, field-room (length name)))
 
+length-stating : (sum : ℕ) (name : List ℕ) (kind : ℕ) (content : List ℕ) → length (stating sum name kind content) ≡ offsetFor name + length content
+unfolding stating
+length-stating sum name kind content = simp (length-append, length-header, length-field) (omega arith)
+
 pub length-span : (name : List ℕ) (kind : ℕ) (content : List ℕ) → length (spanBytes name kind content) ≡ offsetFor name + length content
 unfolding spanBytes
-length-span name kind content = simp (length-append, length-header, length-field) (omega arith)
+length-span name kind content = length-stating (sumFor name kind content) name kind content
+
+pub total-magic : total magic ≡ 590
+unfolding magic total
+total-magic = refl
+
+pub total-zeros : (k : ℕ) → total (replicate k 0) ≡ 0
+unfolding total
+total-zeros zero = refl
+total-zeros (suc k) = omega (arith, total-zeros k)
 
 -- A header's fields are read as they were written, whatever follows it.
-module _ (len kind offset : ℕ) (rest : List ℕ) where
+module _ (len kind sum offset : ℕ) (rest : List ℕ) where
   abbrev h : List ℕ
-  h = headerBytes len kind offset ++ rest
+  h = headerBytes len kind sum offset ++ rest
 
   pub header-magic : startsWithMagic h ≡ true
   unfolding headerBytes magic startsWithMagic eqBytes
   header-magic = refl
 
   -- Field by field.
-  split : h ≡ magic ++ (beBytes 4 len ++ (beBytes 4 kind ++ (beBytes 4 0 ++ (beBytes 4 offset ++ rest))))
+  split : h ≡ magic ++ (beBytes 4 len ++ (beBytes 4 kind ++ (beBytes 4 sum ++ (beBytes 4 offset ++ rest))))
   unfolding headerBytes
   split = simp append-assoc
 
   pub header-len : len < 256 ^ 4 → be 4 h 8 ≡ len
-  header-len l = rw split (be-beBytes 4 len magic (beBytes 4 kind ++ (beBytes 4 0 ++ (beBytes 4 offset ++ rest))) 8 length-magic l)
+  header-len l = rw split (be-beBytes 4 len magic (beBytes 4 kind ++ (beBytes 4 sum ++ (beBytes 4 offset ++ rest))) 8 length-magic l)
 
   eight : (v : ℕ) → length (magic ++ beBytes 4 v) ≡ 12
   eight v = simp (length-append, length-magic, length-beBytes) refl
 
   pub header-kind : kind < 256 ^ 4 → be 4 h 12 ≡ kind
   header-kind l =
-      rw (split, ← append-assoc magic (beBytes 4 len) (beBytes 4 kind ++ (beBytes 4 0 ++ (beBytes 4 offset ++ rest))))
-      (be-beBytes 4 kind (magic ++ beBytes 4 len) (beBytes 4 0 ++ (beBytes 4 offset ++ rest)) 12 (eight len) l)
+      rw (split, ← append-assoc magic (beBytes 4 len) (beBytes 4 kind ++ (beBytes 4 sum ++ (beBytes 4 offset ++ rest))))
+      (be-beBytes 4 kind (magic ++ beBytes 4 len) (beBytes 4 sum ++ (beBytes 4 offset ++ rest)) 12 (eight len) l)
 
   front : List ℕ
-  front = magic ++ (beBytes 4 len ++ (beBytes 4 kind ++ beBytes 4 0))
+  front = magic ++ (beBytes 4 len ++ (beBytes 4 kind ++ beBytes 4 sum))
 
   front-length : length front ≡ 20
   unfolding front
@@ -133,33 +148,104 @@ module _ (len kind offset : ℕ) (rest : List ℕ) where
   pub header-offset : offset < 256 ^ 4 → be 4 h 20 ≡ offset
   header-offset l = rw regroup (be-beBytes 4 offset front rest 20 front-length l)
 
-  -- The checksum is written 0.
-  pub header-checksum : be 4 h 16 ≡ 0
-  unfolding headerBytes front
-  header-checksum =
-      let e : h ≡ (magic ++ (beBytes 4 len ++ beBytes 4 kind)) ++ (beBytes 4 0 ++ (beBytes 4 offset ++ rest)) = simp append-assoc in
-      let l : length (magic ++ (beBytes 4 len ++ beBytes 4 kind)) ≡ 16 = simp (length-append, length-magic, length-beBytes) refl in
-      rw e (be-beBytes 4 0 (magic ++ (beBytes 4 len ++ beBytes 4 kind)) (beBytes 4 offset ++ rest) 16 l (omega arith))
+  -- Round the checksum.
+  before-sum : List ℕ
+  before-sum = magic ++ (beBytes 4 len ++ beBytes 4 kind)
+
+  before-length : length before-sum ≡ 16
+  unfolding before-sum
+  before-length = simp (length-append, length-magic, length-beBytes) refl
+
+  round-sum : h ≡ before-sum ++ (beBytes 4 sum ++ (beBytes 4 offset ++ rest))
+  unfolding headerBytes before-sum
+  round-sum = simp append-assoc
+
+  -- The checksum is the sum that is stated.
+  pub header-checksum : sum < 256 ^ 4 → be 4 h 16 ≡ sum
+  header-checksum l = rw round-sum (be-beBytes 4 sum before-sum (beBytes 4 offset ++ rest) 16 before-length l)
+
+  counted : total before-sum ≡ 590 + (total (beBytes 4 len) + total (beBytes 4 kind))
+  unfolding before-sum
+  counted = rw (total-append magic (beBytes 4 len ++ beBytes 4 kind), total-append (beBytes 4 len) (beBytes 4 kind), total-magic)
+
+  -- The four bytes of the checksum are not counted, nor what stands there.
+  header-total : total (unstated h) ≡ 590 + total (beBytes 4 len) + total (beBytes 4 kind) + total (beBytes 4 offset) + total rest
+  header-total =
+      let f : take 16 h ≡ before-sum = rw round-sum (take-at before-sum (beBytes 4 sum ++ (beBytes 4 offset ++ rest)) 16 before-length) in
+      let d : drop 20 h ≡ beBytes 4 offset ++ rest = rw regroup (drop-at front (beBytes 4 offset ++ rest) 20 front-length) in
+      let e : total (unstated h) ≡ total before-sum + (total (beBytes 4 offset) + total rest) = total-unstated h ∙ rw (f, d, total-append (beBytes 4 offset) rest) in
+      omega (arith, e, counted)
+
+-- The sum of a component that is written: 590 for the magic, then len, type and offset, the name and the content.
+
+abbrev pub byParts : List ℕ → ℕ → List ℕ → ℕ
+byParts name kind content = 590 + total (beBytes 4 (length content)) + total (beBytes 4 kind) + total (beBytes 4 (offsetFor name)) + (total name + total content)
+
+pub stating-total : (sum : ℕ) (name : List ℕ) (kind : ℕ) (content : List ℕ) → total (unstated (stating sum name kind content)) ≡ byParts name kind content
+unfolding stating fieldBytes
+stating-total sum name kind content = omega (arith, header-total (length content) kind sum (offsetFor name) (fieldBytes name ++ content), field)
+  where
+    field : total (fieldBytes name ++ content) ≡ total name + total content
+    field =
+        let n = fieldSize (length name) - length name in
+        rw (total-append (fieldBytes name) content, total-append name (replicate n 0), total-zeros n) (omega arith)
+
+pub stating-sum : (sum : ℕ) (name : List ℕ) (kind : ℕ) (content : List ℕ) → spanSum (stating sum name kind content) ≡ byParts name kind content % 4294967296
+unfolding spanSum
+stating-sum sum name kind content = ap (λ (x : ℕ). x % 4294967296) (stating-total sum name kind content)
+
+-- What is written states the right sum.
+pub sum-written : (name : List ℕ) (kind : ℕ) (content : List ℕ) → spanSum (spanBytes name kind content) ≡ sumFor name kind content
+unfolding spanBytes sumFor
+sum-written name kind content = stating-sum (sumFor name kind content) name kind content ∙ sym (stating-sum 0 name kind content)
+
+sum-small : (name : List ℕ) (kind : ℕ) (content : List ℕ) → sumFor name kind content < 256 ^ 4
+unfolding sumFor
+sum-small name kind content = rw (stating-sum 0 name kind content) (below _)
+  where
+    below : (n : ℕ) → n % 4294967296 < 256 ^ 4
+    below n = omega arith
+
+pub sum-read : (name : List ℕ) (kind : ℕ) (content : List ℕ) → checksumOf (spanBytes name kind content) ≡ sumFor name kind content
+unfolding spanBytes stating
+sum-read name kind content =
+    header-checksum (length content) kind (sumFor name kind content) (offsetFor name) (fieldBytes name ++ content) (sum-small name kind content)
+
+pub sum-fits : (name : List ℕ) (kind : ℕ) (content : List ℕ) → sumFits (spanBytes name kind content) ≡ true
+unfolding sumFits
+sum-fits name kind content =
+    let n = sumFor name kind content in
+    rw (sum-read name kind content, sum-written name kind content, eq-eqb n n refl) (go (eqb n 0))
+  where
+    go : (b : Bool) → cond b true true ≡ true
+    go true = refl
+    go false = refl
 
 module _ (name : List ℕ) (kind : ℕ) (content rest : List ℕ) (fit : Fit name) (typed : kind < 256 ^ 4) (told : length content < 256 ^ 4) where
   abbrev s : List ℕ
   s = spanBytes name kind content ++ rest
 
-  parts : s ≡ headerBytes (length content) kind (offsetFor name) ++ (fieldBytes name ++ (content ++ rest))
-  unfolding spanBytes
+  abbrev sum : ℕ
+  sum = sumFor name kind content
+
+  parts : s ≡ headerBytes (length content) kind sum (offsetFor name) ++ (fieldBytes name ++ (content ++ rest))
+  unfolding spanBytes stating
   parts = simp append-assoc
 
   offset-is : offsetOf s ≡ offsetFor name
-  offset-is = rw parts (header-offset (length content) kind (offsetFor name) (fieldBytes name ++ (content ++ rest)) (omega (arith, field-most (length name) (fit .short))))
+  offset-is = rw parts (header-offset (length content) kind sum (offsetFor name) (fieldBytes name ++ (content ++ rest)) (omega (arith, field-most (length name) (fit .short))))
 
   len-is : lenOf s ≡ length content
-  len-is = rw parts (header-len (length content) kind (offsetFor name) (fieldBytes name ++ (content ++ rest)) told)
+  len-is = rw parts (header-len (length content) kind sum (offsetFor name) (fieldBytes name ++ (content ++ rest)) told)
 
   kind-is : kindOf s ≡ kind
-  kind-is = rw parts (header-kind (length content) kind (offsetFor name) (fieldBytes name ++ (content ++ rest)) typed)
+  kind-is = rw parts (header-kind (length content) kind sum (offsetFor name) (fieldBytes name ++ (content ++ rest)) typed)
+
+  checksum-is : checksumOf s ≡ sum
+  checksum-is = rw parts (header-checksum (length content) kind sum (offsetFor name) (fieldBytes name ++ (content ++ rest)) (sum-small name kind content))
 
   after-header : drop 24 s ≡ fieldBytes name ++ (content ++ rest)
-  after-header = rw parts (drop-at (headerBytes (length content) kind (offsetFor name)) (fieldBytes name ++ (content ++ rest)) 24 (length-header (length content) kind (offsetFor name)))
+  after-header = rw parts (drop-at (headerBytes (length content) kind sum (offsetFor name)) (fieldBytes name ++ (content ++ rest)) 24 (length-header (length content) kind sum (offsetFor name)))
 
   field-is : nameField s ≡ fieldBytes name
   field-is =
@@ -195,7 +281,7 @@ module _ (name : List ℕ) (kind : ℕ) (content rest : List ℕ) (fit : Fit nam
 
   read-is : componentOf s ≡ made name kind content
   unfolding componentOf
-  read-is = rw (field-is, offset-is, len-is, kind-is, before-is, content-is)
+  read-is = rw (field-is, offset-is, len-is, kind-is, checksum-is, before-is, content-is)
 
   long : offsetFor name + length content ≤ length s
   long = simp (length-append, length-span) (omega arith)
@@ -203,13 +289,14 @@ module _ (name : List ℕ) (kind : ℕ) (content rest : List ℕ) (fit : Fit nam
   -- The round trip: a written component judges as what was written.
   pub judge-written : judge s ≡ some (made name kind content)
   judge-written = unformed s (made name kind content) (record {
-    magic = rw parts (header-magic (length content) kind (offsetFor name) (fieldBytes name ++ (content ++ rest)));
+    magic = rw parts (header-magic (length content) kind sum (offsetFor name) (fieldBytes name ++ (content ++ rest)));
     long = omega (arith, long);
     least = omega (arith, offset-is, field-least (length name));
     most = omega (arith, offset-is, field-most (length name) (fit .short));
     whole = rw offset-is (even (fieldSize (length name)) (field-whole (length name)));
     fits = omega (arith, long, offset-is, len-is);
     named = rw field-is named-is;
+    summed = rw (offset-is, len-is, take-at (spanBytes name kind content) rest (offsetFor name + length content) (length-span name kind content)) (sum-fits name kind content);
     read = read-is;
   })
     where
@@ -254,6 +341,13 @@ module _ (r : List ℕ) (x : Run) (s : List ℕ) (fits : x .from + length s ≤ 
 
   from-run : (i : ℕ) → x .from ≤ i → getD (filled r x s) i 0 ≡ getD (s ++ (ones ++ aft)) (i - x .from) 0
   from-run i h = ap (λ (l : List ℕ). getD l i 0) filled-is ∙ getD-right fore (s ++ (ones ++ aft)) i (omega (arith, fore-length)) ∙ rw fore-length
+
+  pub filled-put : Put (filled r x s) (x .from) s
+  filled-put = (
+    omega (arith, filled-length),
+    λ k h. let e : x .from + k - x .from ≡ k = omega arith in
+        from-run (x .from + k) (omega arith) ∙ ap (λ (n : ℕ). getD (s ++ (ones ++ aft)) n 0) e ∙ List·getD-append s (ones ++ aft) 0 k h,
+  )
 
   from-ones : (i : ℕ) → x .from + length s ≤ i → getD (filled r x s) i 0 ≡ getD (ones ++ aft) (i - x .from - length s) 0
   from-ones i h = from-run i (omega arith) ∙ getD-right s (ones ++ aft) (i - x .from) (omega arith)

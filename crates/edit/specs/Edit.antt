@@ -11,6 +11,7 @@ use lib.Dec.{ltb, leb, eqb}
 use Rattle.number.specs.Number.{beBytes}
 use Rattle.number.specs.Bytes.{splice}
 use Rattle.component.specs.Component.{Component, magic}
+use Rattle.component.specs.Sums.{spanSum}
 use Rattle.component.specs.Names.{nameFits}
 use Rattle.number.specs.Lists.{any, keep}
 use Rattle.walk.specs.Walk.{Entry, end, buried, next, plainListing}
@@ -27,17 +28,29 @@ fieldSize n = (n / 16 + 1) * 16
 abbrev pub offsetFor : List ℕ → ℕ
 offsetFor name = 24 + fieldSize (length name)
 
--- The 24 bytes of a header: the magic, len, type, the checksum, which is written 0, and offset.
-unfoldable pub headerBytes : ℕ → ℕ → ℕ → List ℕ
-headerBytes len kind offset = magic ++ (beBytes 4 len ++ (beBytes 4 kind ++ (beBytes 4 0 ++ beBytes 4 offset)))
+-- The 24 bytes of a header: the magic, len, type, the checksum and offset.
+unfoldable pub headerBytes : ℕ → ℕ → ℕ → ℕ → List ℕ
+headerBytes len kind sum offset = magic ++ (beBytes 4 len ++ (beBytes 4 kind ++ (beBytes 4 sum ++ beBytes 4 offset)))
 
 -- The bytes of the name field: the name, and zeros.
 unfoldable pub fieldBytes : List ℕ → List ℕ
 fieldBytes name = name ++ replicate (fieldSize (length name) - length name) 0
 
--- The bytes of a whole component: its span.
+-- The bytes of a whole component that states a sum: its span.
+unfoldable pub stating : ℕ → List ℕ → ℕ → List ℕ → List ℕ
+stating sum name kind content = headerBytes (length content) kind sum (offsetFor name) ++ (fieldBytes name ++ content)
+
+-- "Edits write the sum": that of the span, in which the bytes of the checksum count as zero.
+unfoldable pub sumFor : List ℕ → ℕ → List ℕ → ℕ
+sumFor name kind content = spanSum (stating 0 name kind content)
+
+-- The bytes of a whole component, with its sum.
 unfoldable pub spanBytes : List ℕ → ℕ → List ℕ → List ℕ
-spanBytes name kind content = headerBytes (length content) kind (offsetFor name) ++ (fieldBytes name ++ content)
+spanBytes name kind content = stating (sumFor name kind content) name kind content
+
+-- Its header.
+abbrev pub headerFor : List ℕ → ℕ → List ℕ → List ℕ
+headerFor name kind content = headerBytes (length content) kind (sumFor name kind content) (offsetFor name)
 
 -- 16: "the span to be written, by itself and whether or not it fits, holds LARCHIVE wholly at a multiple of align above 0 from its start".
 unfoldable pub buries : ℕ → List ℕ → Bool
@@ -173,7 +186,8 @@ without p l = keep (λ u. not (eqb (u .place) p)) l
 
 -- The component that is written.
 abbrev pub made : List ℕ → ℕ → List ℕ → Component
-made name kind content = record { offset = offsetFor name; len = length content; kind = kind; name = name; content = content }
+made name kind content =
+    record { offset = offsetFor name; len = length content; kind = kind; checksum = sumFor name kind content; name = name; content = content }
 
 -- What an add needs before 16, and before it looks for room.
 
@@ -197,3 +211,7 @@ Free r a q n = (q + n ≤ length r) × ((d : Entry) → List·Memᴰ d (plainLis
 -- The numbers of s are bytes.
 abbrev pub Bytes : List ℕ → Type 0
 Bytes s = (i : ℕ) → getD s i 0 < 256
+
+-- The bytes s stand in r from p on.
+abbrev pub Put : List ℕ → ℕ → List ℕ → Type 0
+Put r p s = (p + length s ≤ length r) × ((k : ℕ) → k < length s → getD r (p + k) 0 ≡ getD s k 0)

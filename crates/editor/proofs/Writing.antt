@@ -7,53 +7,32 @@ use mathlib.Core.Path.{_≡_, refl, sym, ap, _∙_}
 use mathlib.Core.List.{List, [], _++_, append-assoc}
 use lib.ListN.{length, take, drop, replicate, length-append, length-take, length-drop, length-replicate, take-append-drop}
 use lib.Seq.{take-take, take-add, drop-drop, drop-append-le}
-use borrow.Author.Tests.{le-leb, leb-true}
+use borrow.Author.Tests.{leb-true}
 use Rattle.number.specs.Bytes.{fits, partOf, splice, written}
 use Rattle.terms.specs.Terms.{bytesOf}
 use Rattle.terms.specs.declared.Region.{Region}
-use Rattle.number.proofs.Splice.{Wrote, first, next, splice-length, splice-all}
-use Rattle.number.specs.Number.{beBytes}
-use Rattle.component.specs.Component.{magic}
+use Rattle.number.proofs.Splice.{splice-length, splice-all}
+use Rattle.edit_header.proofs.Headers.{written-fits}
 use Rattle.terms.specs.declared.Refusal.{Refusal}
 use Rattle.terms.proofs.Regions.{bytes-inside, bytes-fit}
 use lib.Dec.{eqb}
-use Rattle.edit.specs.Edit.{headerBytes, fieldBytes, spanBytes, offsetFor, fieldSize, Run, filled, Decision, refuse, write, carriedOut}
+use Rattle.edit.specs.Edit.{headerFor, fieldBytes, stating, spanBytes, fieldSize, Run, filled, Decision, refuse, write, carriedOut}
 use Rattle.decide.specs.Code.{choice}
 use Rattle.editor.specs.Image.{inImage}
 use Rattle.decide.specs.declared.Choice.the-variants.{Refuse}
 use Rattle.editor.specs.declared.Edited.the-variants.{Done, Refused}
 use Rattle.decide.proofs.Choosing.{choice-refuse}
 
--- A write that fits.
-written-fits : (d : List ℕ) (at : ℕ) (ys : List ℕ) → at + length ys ≤ length d → written d at ys ≡ splice d at ys
-unfolding written
-written-fits d at ys h = rw (le-leb (at + length ys) (length d) h)
-
--- A run of writes, each from where the last one ended.
-
-pub begun : (d : List ℕ) (p : List ℕ) (m : ℕ) {x : List ℕ} → x ≡ written d 0 p → length p ≡ m → m ≤ length d → Wrote d 0 p m x
-begun d p m e l h = first d 0 p m (e ∙ written-fits d 0 p (omega arith)) (omega arith) h
-
-pub more : {d x y : List ℕ} {at m : ℕ} {p : List ℕ} (m′ : ℕ) (ys : List ℕ) (n : ℕ)
-    → Wrote d at p m x → y ≡ written x m′ ys → m ≡ m′ → m′ + length ys ≡ n → n ≤ length d → Wrote d at (p ++ ys) n y
-more {d} {x} {y} {at} {m} {p} m′ ys n w v e l h =
-    let lx : length x ≡ length d = ap length (w .bytes) ∙ splice-length d at p (omega (arith, w .ends, w .fits)) in
-    next m′ ys n w (v ∙ written-fits x m′ ys (omega arith)) e l h
-
 pub filled-whole : (d : List ℕ) (v : ℕ) {x : List ℕ} → x ≡ written d 0 (replicate (length d) v) → x ≡ replicate (length d) v
 filled-whole d v e =
     let l : length (replicate (length d) v) ≡ length d = length-replicate {A = ℕ} (length d) v in
     e ∙ written-fits d 0 (replicate (length d) v) (omega arith) ∙ splice-all d (replicate (length d) v) l
 
--- The parts of a header, and of a span, as they are written.
-
-pub header-parts : (len kind offset : ℕ) → (((magic ++ beBytes 4 len) ++ beBytes 4 kind) ++ beBytes 4 0) ++ beBytes 4 offset ≡ headerBytes len kind offset
-unfolding headerBytes
-header-parts len kind offset = simp append-assoc
+-- The parts of a span, as they are written.
 
 pub span-parts : (name : List ℕ) (kind : ℕ) (content ones : List ℕ)
-    → (((headerBytes (length content) kind (offsetFor name) ++ name) ++ replicate (fieldSize (length name) - length name) 0) ++ content) ++ ones ≡ spanBytes name kind content ++ ones
-unfolding spanBytes fieldBytes
+    → (((headerFor name kind content ++ name) ++ replicate (fieldSize (length name) - length name) 0) ++ content) ++ ones ≡ spanBytes name kind content ++ ones
+unfolding spanBytes stating fieldBytes
 span-parts name kind content ones = simp append-assoc
 
 -- A part put back as it was leaves all as it was.

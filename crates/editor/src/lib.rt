@@ -8,7 +8,7 @@ ghost use mathlib.Core.List.{_++_};
 ghost use Prim.Native.Nat.{_+_, _-_, _≤_};
 ghost use lib.ListN.{length, replicate};
 ghost use Rattle.number.specs.Bytes.{splice};
-ghost use Rattle.edit.specs.Edit.{offsetFor, headerBytes, spanBytes};
+ghost use Rattle.edit.specs.Edit.{offsetFor, spanBytes};
 ghost use Rattle.editor.specs.Image.{addIn, replaceIn, removeIn};
 
 // The place of the component, or the refusal.
@@ -17,19 +17,7 @@ pub enum Edited {
     Refused(Refusal),
 }
 
-// Writes a header over the first 24 bytes of the slot. Its checksum is 0.
-fn put_header(slot: &mut [u8], len: u32, kind: u32, offset: u32)
-    requires { ⌜ 24 ≤ length (now slot) ⌝ }
-    ensures { λ _. ⌜ now (slot .exit) ≡ splice (now (slot .entry)) 0 (headerBytes len kind offset) ⌝ }
-{
-    store::copy(slot, 0, b"LARCHIVE");
-    store::put_be32(slot, 8, len);
-    store::put_be32(slot, 12, kind);
-    store::put_be32(slot, 16, 0);
-    store::put_be32(slot, 20, offset);
-}
-
-// Writes a component over the whole slot: its span, and 0xFF after it. Each byte is written once.
+// Writes a component over the whole slot: its span, with its sum, and 0xFF after it. Each byte is written once.
 fn put(slot: &mut [u8], name: &[u8], kind: u32, content: &[u8])
     requires { ⌜ (length (now name) ≤ 255) × (offsetFor (now name) + length (now content) ≤ length (now slot)) × (length (now content) ≤ 4294967295) ⌝ }
     ensures { λ _. ⌜ now (slot .exit) ≡ spanBytes (now (name .entry)) kind (now (content .entry)) ++ replicate (length (now (slot .entry)) - length (spanBytes (now (name .entry)) kind (now (content .entry)))) 255 ⌝ }
@@ -38,7 +26,8 @@ fn put(slot: &mut [u8], name: &[u8], kind: u32, content: &[u8])
     let named = 24 + name.len();
     let offset = room::offset_for(name);
     let end = offset + content.len();
-    put_header(slot, content.len() as u32, kind, offset as u32);
+    let header = edit_header::header(name, kind, content);
+    store::copy(slot, 0, &header);
     store::copy(slot, 24, name);
     store::fill(slot, named, offset - named, 0);
     store::copy(slot, offset, content);

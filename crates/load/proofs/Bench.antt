@@ -9,7 +9,7 @@ use Rattle.terms.specs.declared.Region.{Region}
 
 -- A component at place 100 with its content at 140, of type k.
 abbrev pub component : ℕ → Taken
-component k = record { place = 100; header = record { offset = 40; len = 0; kind = k; named = 1 }; next = 0 }
+component k = record { place = 100; header = record { offset = 40; len = 0; kind = k; checksum = 0; named = 1 }; next = 0 }
 
 -- A component of type k with the content s; its name is the byte c.
 abbrev pub named : ℕ → ℕ → List ℕ → List ℕ

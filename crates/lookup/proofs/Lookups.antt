@@ -3,21 +3,29 @@ use Prim.Native.Nat.{ℕ, zero, suc, _+_, _<_}
 use native.Mathlib.Omega.{arith}
 use mathlib.Core.Path.{_≡_, refl, sym, ap, subst, _∙_}
 use mathlib.Core.List.{List, [], _∷_}
-use mathlib.Core.Bool.{Bool, true, false, cond}
+use mathlib.Core.Bool.{Bool, true, false, cond, true≢false, false≢true}
 use mathlib.Core.Option.{Option, some, none, Option·none-ne-some, Option·some-injective}
-use lib.ListN.{length, drop}
+use lib.ListN.{length, take, drop}
 use Rattle.number.specs.Bytes.{partOf, eqBytes}
 use Rattle.number.specs.Lists.{keep}
-use Rattle.walk.specs.Walk.{Entry, pickOf, step, next, takenOf, told}
-use Rattle.lookup.specs.Lookup.{bears, bearersFrom, firstOf, foremost, only, found}
+use Rattle.component.specs.Sums.{sumFits}
+use Rattle.walk.specs.Walk.{Entry, guarded, pickOf, candidateOf, step, next, end, takenOf, told, Stop}
+use Rattle.lookup.specs.Lookup.{bears, bearersFrom, namedAt, servedAt, firstOf, foremost, only, found}
 use Rattle.walk.specs.declared.Taken.{Taken}
 use Rattle.walk.specs.declared.Step.the-variants.{Took, NoneLeft}
 use Rattle.lookup.specs.declared.Found.the-variants.{At, Refused}
 use Rattle.walk.proofs.Standing.{told-some, stands}
-use Rattle.walk.proofs.Steps.{rest-none, rest-some}
-use Rattle.walk.proofs.Stepping.{pick-fits, step-past}
+use Rattle.walk.proofs.Steps.{rest-none, rest-some, rest-same, onward-stop, onward-far}
+use Rattle.walk.proofs.Stepping.{pick-fits, step-past, places, found-fits}
+use Rattle.walk.proofs.Candidates.{answered, right, wrong-next}
 
 -- The bearers from n on, by the step from n.
+module _ (g : Bool) (r : List ℕ) (a n : ℕ) where
+  pub bearers-same : (m : ℕ) (name : List ℕ) → step (pickOf g r a) r a n ≡ step (pickOf g r a) r a m
+      → bearersFrom (pickOf g r a) r a name n ≡ bearersFrom (pickOf g r a) r a name m
+  unfolding bearersFrom
+  bearers-same m name s = rw (rest-same (pickOf g r a) r a n m s)
+
 module _ (g : Bool) (r : List ℕ) (a n : ℕ) (name : List ℕ) where
   pub bearers-end : step (pickOf g r a) r a n ≡ none → bearersFrom (pickOf g r a) r a name n ≡ []
   unfolding bearersFrom keep
@@ -46,6 +54,51 @@ module _ (g : Bool) (r : List ℕ) (a n : ℕ) (name : List ℕ) where
       where
         go : (e : Entry) → step (pickOf g r a) r a n ≡ some e → takenOf r a e ≡ t → bearersFrom (pickOf g r a) r a name n ≡ bearersFrom (pickOf g r a) r a name (t .next)
         go e o q = rw (bearers-here e o, sym (bears-said e o q) ∙ b) (ap (λ (x : Taken). bearersFrom (pickOf g r a) r a name (x .next)) q)
+
+-- The guarded walk by its candidates: the one that was found from n on, t. What it bears is compared before its sum is taken.
+module _ (r : List ℕ) (a n : ℕ) (name : List ℕ) (stop : Stop r a n) (t : Taken) (s : told r a (step (candidateOf true r a) r a n) ≡ Took t) where
+  abbrev borne : Bool
+  borne = namedAt r name t
+
+  abbrev sum : Bool
+  sum = sumFits (take (t .header .offset + t .header .len) (drop (t .place) r))
+
+  abbrev bearers : ℕ → List Entry
+  bearers m = bearersFrom (guarded r a) r a name m
+
+  pub served : servedAt r name t ≡ true → Took t ≡ told r a (firstOf (bearers n))
+  served e = go borne sum refl refl e
+    where
+      go : (b k : Bool) → borne ≡ b → sum ≡ k → cond b k false ≡ true → Took t ≡ told r a (firstOf (bearers n))
+      go true true y z e = bearer-here true r a n name t (sym (right r a n t s z)) y
+      go true false y z e = absurd (false≢true e)
+      go false k y z e = absurd (false≢true e)
+
+  pub unserved : servedAt r name t ≡ false → bearers n ≡ bearers (t .next)
+  unserved e = go borne sum refl refl e
+    where
+      wrong-sum : sum ≡ false → bearers n ≡ bearers (t .next)
+      wrong-sum z = bearers-same true r a n (t .next) name (wrong-next r a n t s stop z)
+
+      go : (b k : Bool) → borne ≡ b → sum ≡ k → cond b k false ≡ false → bearers n ≡ bearers (t .next)
+      go true true y z e = absurd (true≢false e)
+      go true false y z e = wrong-sum z
+      go false true y z e = bearer-on true r a n name t (sym (right r a n t s z)) y
+      go false false y z e = wrong-sum z
+
+  -- The number to go on from is behind n, and one to step from.
+  pub next-stop : (n < t .next) × Stop r a (t .next)
+  next-stop = let (e, o, q) = answered r a n t s in
+      subst (λ (x : Taken). (n < x .next) × Stop r a (x .next)) q (later e o, onward-stop r a (end e))
+    where
+      later : (e : Entry) → step (candidateOf true r a) r a n ≡ some e → n < next r a e
+      later e o =
+          let f = found-fits r a n e o in
+          omega (arith, f, onward-far r a (places r a n e o) (end e) (suc (e .place)) (omega (arith, f)) (omega (arith, f)))
+
+-- The number that a component gives to go on from is one to step from.
+pub took-stop : (r : List ℕ) (a : ℕ) (o : Option Entry) (t : Taken) → told r a o ≡ Took t → Stop r a (t .next)
+took-stop r a o t s = let (e, f, q) = told-some r a o t s in subst (λ (x : Taken). Stop r a (x .next)) q (onward-stop r a (end e))
 
 -- The plain lookup, by the first bearer that was found.
 

@@ -1,12 +1,15 @@
 -- Lookups by name (document 01, "Components and the two walks"). Any bytes may be asked for; an unfit name is borne by nobody.
-use Prim.Native.Nat.{ℕ}
+use Prim.Native.Nat.{ℕ, _+_}
 use mathlib.Core.Path.{_≡_}
 use mathlib.Core.List.{List, [], _∷_, _++_, List·Memᴰ}
-use mathlib.Core.Bool.{Bool, true, false}
+use mathlib.Core.Bool.{Bool, true, false, cond}
 use mathlib.Core.Option.{Option, some, none}
-use Rattle.number.specs.Bytes.{eqBytes}
+use lib.ListN.{take, drop}
+use Rattle.number.specs.Bytes.{partOf, eqBytes}
 use Rattle.number.specs.Lists.{keep}
-use Rattle.walk.specs.Walk.{Entry, Pick, listingFrom, plainListing, guardedListing, takenOf}
+use Rattle.component.specs.Sums.{sumFits}
+use Rattle.walk.specs.Walk.{Entry, Pick, plain, guarded, listingFrom, plainListing, guardedListing, takenOf}
+use Rattle.walk.specs.declared.Taken.{Taken}
 use Rattle.lookup.specs.declared.Found.{Found}
 use Rattle.lookup.specs.declared.Found.the-variants.{At, Refused}
 
@@ -33,6 +36,20 @@ only (t ∷ u ∷ us) = refused 11
 -- The bearers in a walk's listing from n on.
 unfoldable pub bearersFrom : Pick → List ℕ → ℕ → List ℕ → ℕ → List Entry
 bearersFrom pick r a name n = keep (bears name) (listingFrom pick r a n)
+
+abbrev pub plainBearers : List ℕ → ℕ → List ℕ → ℕ → List Entry
+plainBearers r a name n = bearersFrom (plain r) r a name n
+
+abbrev pub guardedBearers : List ℕ → ℕ → List ℕ → ℕ → List Entry
+guardedBearers r a name n = bearersFrom (guarded r a) r a name n
+
+-- What was found at t bears the name, by its header's numbers; and it states no sum, or the right one.
+
+abbrev pub namedAt : List ℕ → List ℕ → Taken → Bool
+namedAt r name t = eqBytes (partOf (drop (t .place) r) 24 (t .header .named)) name
+
+abbrev pub servedAt : List ℕ → List ℕ → Taken → Bool
+servedAt r name t = cond (namedAt r name t) (sumFits (take (t .header .offset + t .header .len) (drop (t .place) r))) false
 
 -- Plain lookup gives the first bearer in the plain listing.
 abbrev pub plainLookup : List ℕ → ℕ → List ℕ → Answer

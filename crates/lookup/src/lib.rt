@@ -2,10 +2,10 @@
 use walk::Step;
 use walk::Taken;
 ghost use mathlib.Core.Path.{_≡_};
-ghost use lib.ListN.{drop};
-ghost use Rattle.number.specs.Bytes.{partOf, eqBytes};
-ghost use Rattle.walk.specs.Walk.{pickOf, told};
-ghost use Rattle.lookup.specs.Lookup.{bearersFrom, firstOf, plainLookup, guardedLookup, lookupOf, found};
+ghost use Prim.Native.Nat.{_+_, _≤_};
+ghost use lib.ListN.{length};
+ghost use Rattle.walk.specs.Walk.{told, Stop};
+ghost use Rattle.lookup.specs.Lookup.{plainBearers, guardedBearers, firstOf, namedAt, servedAt, plainLookup, guardedLookup, lookupOf, found};
 
 // A component, or the number of a refusal.
 pub enum Found {
@@ -15,19 +15,33 @@ pub enum Found {
 
 // The component t of the region bears the name.
 fn bears(r: &[u8], t: Taken, name: &[u8]) -> bool
-    ensures { λ b. ⌜ b ≡ eqBytes (partOf (drop (t .place) (now (r .entry))) 24 (t .header .named)) (now (name .entry)) ⌝ }
+    ensures { λ b. ⌜ b ≡ namedAt (now (r .entry)) (now (name .entry)) t ⌝ }
 {
     let h = t.header;
     number::equal(number::part(number::rest(r, t.place), 24, h.named), name)
 }
 
-// The first component from `from` on that bears the name.
-fn first_bearer(guarded: bool, r: &[u8], align: usize, from: usize, name: &[u8]) -> Step
-    ensures { λ s. ⌜ s ≡ told (now (r .entry)) align (firstOf (bearersFrom (pickOf guarded (now (r .entry)) align) (now (r .entry)) align (now (name .entry)) from)) ⌝ }
+// It bears the name, and states no sum or the right one. Where it bears another name its span is not summed.
+fn serves(r: &[u8], t: Taken, name: &[u8]) -> bool
+    requires { ⌜ t .place + (t .header .offset + t .header .len) ≤ length (now r) ⌝ }
+    ensures { λ b. ⌜ b ≡ servedAt (now (r .entry)) (now (name .entry)) t ⌝ }
 {
-    let mut n = from;
+    if !bears(r, t, name) {
+        return false;
+    }
+    let h = t.header;
+    let p = t.place;
+    let e = p + (h.offset + h.len);
+    component::sum_fits(&r[p..e])
+}
+
+// The first component of the plain listing that bears the name.
+fn first_bearer(r: &[u8], align: usize, name: &[u8]) -> Step
+    ensures { λ s. ⌜ s ≡ told (now (r .entry)) align (firstOf (plainBearers (now (r .entry)) align (now (name .entry)) 0)) ⌝ }
+{
+    let mut n = 0;
     while n < r.len() {
-        let s = walk::walk_step(guarded, r, align, n);
+        let s = walk::walk_step(false, r, align, n);
         match s {
             Step::NoneLeft => {
                 return Step::NoneLeft;
@@ -43,12 +57,36 @@ fn first_bearer(guarded: bool, r: &[u8], align: usize, from: usize, name: &[u8])
     Step::NoneLeft
 }
 
+// The first component of the guarded listing, from the place `from` on, that bears the name. Only what bears it is summed: whatever the sum of
+// another, no later place in its span carries the magic, and the walk goes on behind it.
+fn guarded_bearer(r: &[u8], align: usize, from: usize, name: &[u8]) -> Step
+    requires { ⌜ Stop (now r) align from ⌝ }
+    ensures { λ s. ⌜ s ≡ told (now (r .entry)) align (firstOf (guardedBearers (now (r .entry)) align (now (name .entry)) from)) ⌝ }
+{
+    let mut n = from;
+    while n < r.len() {
+        let s = walk::candidate(r, align, n);
+        match s {
+            Step::NoneLeft => {
+                return Step::NoneLeft;
+            }
+            Step::Took(t) => {
+                if serves(r, t, name) {
+                    return Step::Took(t);
+                }
+                n = t.next;
+            }
+        }
+    }
+    Step::NoneLeft
+}
+
 // The first bearer of the name in the plain listing, or refusal 10.
 pub fn plain_find(r: &[u8], align: usize, name: &[u8]) -> Found
     ensures { λ f. ⌜ f ≡ found (now (r .entry)) align (plainLookup (now (r .entry)) align (now (name .entry))) ⌝ }
     ensures kept { λ _. ⌜ (now (r .exit) ≡ now (r .entry)) × (now (name .exit) ≡ now (name .entry)) ⌝ }
 {
-    let s = first_bearer(false, r, align, 0, name);
+    let s = first_bearer(r, align, name);
     match s {
         Step::Took(t) => Found::At(t),
         Step::NoneLeft => Found::Refused(10),
@@ -60,11 +98,11 @@ pub fn guarded_find(r: &[u8], align: usize, name: &[u8]) -> Found
     ensures { λ f. ⌜ f ≡ found (now (r .entry)) align (guardedLookup (now (r .entry)) align (now (name .entry))) ⌝ }
     ensures kept { λ _. ⌜ (now (r .exit) ≡ now (r .entry)) × (now (name .exit) ≡ now (name .entry)) ⌝ }
 {
-    let s = first_bearer(true, r, align, 0, name);
+    let s = guarded_bearer(r, align, 0, name);
     match s {
         Step::NoneLeft => Found::Refused(10),
         Step::Took(t) => {
-            let u = first_bearer(true, r, align, t.next, name);
+            let u = guarded_bearer(r, align, t.next, name);
             match u {
                 Step::NoneLeft => Found::At(t),
                 Step::Took(_) => Found::Refused(11),

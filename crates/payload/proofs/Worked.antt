@@ -6,11 +6,9 @@ use mathlib.Core.List.{List, [], _∷_, _++_, map}
 use lib.ListN.{replicate}
 use lib.Dec.{eqb}
 use Rattle.number.specs.Number.{be, le, beBytes, leBytes}
-use Rattle.number.specs.Bytes.{partOf, eqBytes}
-use Rattle.number.specs.Tests.{every, all}
+use Rattle.number.specs.Bytes.{partOf}
+use Rattle.number.specs.Tests.{every}
 use Rattle.number.specs.Lists.{any, keep, padded}
-use Rattle.component.specs.Names.{nameTests, nameFits, beforeZero, fieldTests, fieldFits}
-use Rattle.component.specs.Component.{magic, startsWithMagic, componentOf, headerTests, wellFormed, fields, judge}
 use Rattle.walk.specs.Walk.{placesBelow, places, carries, buried, unless, guarded, orElse, first, step, onward, follow, steps, listingFrom}
 use Rattle.lookup.specs.Lookup.{bears, only}
 use Rattle.terms.specs.Terms.{bytesOf}
@@ -18,6 +16,7 @@ use Rattle.load.specs.Fits.{sourceFits, lenFits, targetFits, loadTests, endsBef
 use Rattle.load.proofs.Bench.{component, image, twice, region}
 use Rattle.payload.specs.Payload.{codeType, dataType, bssType, paramsType, entryType, segmentAt, bssTests, paramsTests, typeTests, recordTests, clear, turnTests, segmentsFrom, payloadTests, unused, planOf, refusedPayload, payloadAnswer, payloadOf, payloadIn}
 use Rattle.payload.specs.declared.PayloadPlan.{PayloadPlan}
+use Rattle.component.proofs.Opened.{judging}
 
 -- The types as bytes in flash: CODE, DATA, "BSS ", PARA and ENTR.
 types : map (leBytes 4) (codeType ∷ dataType ∷ bssType ∷ paramsType ∷ entryType ∷ [])
@@ -124,7 +123,7 @@ read-payload : payloadIn (image 0x20 plain-payload) (region 288) (0x70 ∷ []) �
       ∷ record { kind = entryType; compression = 0; source = 0; load = 0x1004; len = 0; memlen = 0 }
       ∷ replicate 12 unused;
 }
-unfolding be le beBytes leBytes partOf eqBytes all nameTests nameFits beforeZero fieldTests fieldFits magic startsWithMagic componentOf headerTests wellFormed fields judge any keep placesBelow places carries buried unless guarded orElse first step onward follow steps listingFrom bears only bytesOf sourceFits lenFits targetFits loadTests segmentAt bssTests paramsTests typeTests recordTests endsBefore apart clear turnTests segmentsFrom payloadTests padded planOf payloadAnswer payloadOf payloadIn
+unfolding judging le leBytes partOf any keep placesBelow places carries buried unless guarded orElse first step onward follow steps listingFrom bears only bytesOf sourceFits lenFits targetFits loadTests segmentAt bssTests paramsTests typeTests recordTests endsBefore apart clear turnTests segmentsFrom payloadTests padded planOf payloadAnswer payloadOf payloadIn
 read-payload = refl
 
 -- A name that nobody bears, and one that is borne twice: the lookup's refusal is the plan's, before the type is looked at.
@@ -133,5 +132,5 @@ abbrev no-payload : ℕ → PayloadPlan
 no-payload n = record { number = n; place = 0; count = 0; segments = replicate 16 unused }
 
 refused-lookups : (payloadIn (twice 0x10) (region 168) (0x71 ∷ []) ≡ no-payload 10) × (payloadIn (twice 0x10) (region 168) (0x70 ∷ []) ≡ no-payload 11)
-unfolding be le beBytes leBytes partOf eqBytes all nameTests nameFits beforeZero fieldTests fieldFits magic startsWithMagic componentOf headerTests wellFormed fields judge any keep placesBelow places carries buried unless guarded orElse first step onward follow steps listingFrom bears only bytesOf padded refusedPayload payloadIn
+unfolding judging le leBytes partOf any keep placesBelow places carries buried unless guarded orElse first step onward follow steps listingFrom bears only bytesOf padded refusedPayload payloadIn
 refused-lookups = (refl, refl)

@@ -10,8 +10,8 @@ use mathlib.Core.Bool.{Bool, true}
 use mathlib.Core.Option.{Option, some, none}
 use lib.ListN.{length, drop, length-take, length-drop}
 use borrow.Author.Tests.{eq-eqb}
-use Rattle.walk.specs.Walk.{Entry, pickOf, step, next, listingFrom, listing, end}
-use Rattle.walk.proofs.Steps.{Stop, rest-none, rest-some, onward-stop}
+use Rattle.walk.specs.Walk.{Entry, pickOf, step, next, listingFrom, listing, end, Stop}
+use Rattle.walk.proofs.Steps.{rest-none, rest-some, onward-stop}
 use Rattle.walk.proofs.Stepping.{pick-fits}
 use Rattle.walk.proofs.Standing.{stands}
 use Rattle.walk.proofs.Members.{next-within}

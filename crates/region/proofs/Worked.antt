@@ -1,39 +1,36 @@
 -- Worked values: steps in a region that begins at byte 32 and ends at 104, with align 16; numbers on both sides of each bound of refusal 9.
-use Prim.Native.Nat.{ℕ, _-_}
+use Prim.Native.Nat.{ℕ}
 use mathlib.Core.Path.{_≡_, refl}
 use mathlib.Core.Bool.{Bool, true, false}
 use mathlib.Core.List.{List, [], _∷_, _++_, map}
 use lib.ListN.{replicate}
-use Rattle.number.specs.Number.{be}
-use Rattle.number.specs.Bytes.{partOf, eqBytes}
-use Rattle.number.specs.Tests.{all}
+use Rattle.number.specs.Bytes.{partOf}
 use Rattle.number.specs.Lists.{any}
-use Rattle.component.specs.Names.{nameTests, nameFits, beforeZero, fieldTests, fieldFits}
-use Rattle.component.specs.Component.{magic, startsWithMagic, componentOf, headerTests, wellFormed, fields, judge}
 use Rattle.walk.specs.Walk.{placesBelow, places, carries, buried, plain, unless, guarded, orElse, first, step, onward}
 use Rattle.terms.specs.Terms.{bytesOf, refusedBy}
 use Rattle.terms.specs.declared.Region.{Region}
 use Rattle.region.specs.Region.{stepFits, stepBy, stepIn, fromPlace, nameAt, contentAt}
 use Rattle.region.specs.declared.Step.{Step}
 use Rattle.region.specs.declared.Step.the-variants.{Took, NoneLeft, Refused}
+use Rattle.component.proofs.Opened.{judging}
 
 -- What is computed below.
 unfoldable opened : ℕ
-unfolding be partOf eqBytes all any nameTests nameFits beforeZero fieldTests fieldFits magic startsWithMagic componentOf headerTests wellFormed fields judge placesBelow places carries buried plain unless guarded orElse first step onward bytesOf stepFits stepBy fromPlace
+unfolding judging partOf any placesBelow places carries buried plain unless guarded orElse first step onward bytesOf stepFits stepBy fromPlace
 opened = 0
 
--- A component at byte 48, named a, with a content of two bytes; it ends at byte 90.
+-- A component at byte 48, named a, with a content of two bytes and its sum, 825; it ends at byte 90.
 abbrev image : List ℕ
 image =
     replicate 48 0xFF
-    ++ (0x4C ∷ 0x41 ∷ 0x52 ∷ 0x43 ∷ 0x48 ∷ 0x49 ∷ 0x56 ∷ 0x45 ∷ 0 ∷ 0 ∷ 0 ∷ 2 ∷ 0 ∷ 0 ∷ 0 ∷ 0x50 ∷ 0 ∷ 0 ∷ 0 ∷ 0 ∷ 0 ∷ 0 ∷ 0 ∷ 40
+    ++ (0x4C ∷ 0x41 ∷ 0x52 ∷ 0x43 ∷ 0x48 ∷ 0x49 ∷ 0x56 ∷ 0x45 ∷ 0 ∷ 0 ∷ 0 ∷ 2 ∷ 0 ∷ 0 ∷ 0 ∷ 0x50 ∷ 0 ∷ 0 ∷ 0x03 ∷ 0x39 ∷ 0 ∷ 0 ∷ 0 ∷ 40
     ∷ 0x61 ∷ (replicate 15 0 ++ (7 ∷ 9 ∷ replicate 30 0xFF)))
 
 abbrev region : Region
 region = record { start = 32; end = 104; align = 16 }
 
 abbrev taken : Step
-taken = Took (record { place = 48; header = record { offset = 40; len = 2; kind = 0x50; named = 1 }; next = 96 })
+taken = Took (record { place = 48; header = record { offset = 40; len = 2; kind = 0x50; checksum = 825; named = 1 }; next = 96 })
 
 abbrev nine : Step
 nine = Refused (refusedBy 9)

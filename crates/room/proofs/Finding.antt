@@ -11,15 +11,14 @@ use lib.ListN.{length, drop, getD, drop-of-length-le}
 use lib.Seq.{drop-cons, getD-drop}
 use Rattle.number.specs.Lists.{any}
 use Rattle.number.specs.Number.{be}
-use Rattle.component.specs.Component.{Component, judge, componentOf}
-use Rattle.component.proofs.Judging.{formed}
+use Rattle.component.specs.Component.{Component, numbers, componentOf}
+use Rattle.component.proofs.Judging.{numbers-read}
 use Rattle.walk.specs.Walk.{Entry, onward, end, next, plainListing}
-use Rattle.walk.proofs.Members.{given}
 use Rattle.lookup.specs.Lookup.{bears}
 use Rattle.strict.specs.Strict.{placesOf}
 use Rattle.strict.specs.Slots.{start}
 use Rattle.checker.specs.Directory.{named}
-use Rattle.checker.proofs.Names.{Judged, same-any}
+use Rattle.checker.proofs.Names.{Judged, listed, same-any}
 use Rattle.edit.specs.Edit.{Run, holds, runs, freeRuns, lowest, slotOf}
 use Rattle.room.specs.Room.{run, roomFor, roomOf, spaceOf, spanEnd, runsBetween, slotAmong}
 use Rattle.room.specs.declared.Space.{Space}
@@ -98,24 +97,21 @@ used-no r name (p ∷ ps) e = go (named r name p) refl (λ f. used-no r name ps 
 
 -- Now the places are those of a listing.
 
-found : (r : List ℕ) (a : ℕ) → Judged r (plainListing r a)
-found r a t m = given false r a t m .judged
-
 found-tail : (r : List ℕ) (t : Entry) (l : List Entry) → Judged r (t ∷ l) → Judged r l
 found-tail r t l j u m = j u (List·Memᴰ·tail m)
 
 -- A component's numbers as its header has them.
-judge-read : (s : List ℕ) (c : Component) → judge s ≡ some c → (be 4 s 20 ≡ c .offset) × (be 4 s 8 ≡ c .len) × (be 4 s 12 ≡ c .kind)
+fields-read : (s : List ℕ) (c : Component) → numbers s ≡ some c → (be 4 s 20 ≡ c .offset) × (be 4 s 8 ≡ c .len) × (be 4 s 12 ≡ c .kind)
 unfolding componentOf
-judge-read s c e = let f = formed s c e .read in (ap (λ (x : Component). x .offset) f, ap (λ (x : Component). x .len) f, ap (λ (x : Component). x .kind) f)
+fields-read s c e = let f = numbers-read s c e .3 in (ap (λ (x : Component). x .offset) f, ap (λ (x : Component). x .len) f, ap (λ (x : Component). x .kind) f)
 
 -- A component as it is found at its place: its end, its type and its name.
-module _ (r : List ℕ) (t : Entry) (e : judge (drop (t .place) r) ≡ some (t .component)) where
+module _ (r : List ℕ) (t : Entry) (e : numbers (drop (t .place) r) ≡ some (t .component)) where
   end-at : spanEnd r (t .place) ≡ end t
-  end-at = let f = judge-read (drop (t .place) r) (t .component) e in omega (arith, f .0, f .1)
+  end-at = let f = fields-read (drop (t .place) r) (t .component) e in omega (arith, f .0, f .1)
 
   kind-at : be 4 (drop (t .place) r) 12 ≡ t .component .kind
-  kind-at = judge-read (drop (t .place) r) (t .component) e .2
+  kind-at = fields-read (drop (t .place) r) (t .component) e .2
 
   named-bears : (name : List ℕ) → named r name (t .place) ≡ bears name t
   unfolding named bears
@@ -139,7 +135,7 @@ module _ (r : List ℕ) where
     slot-found [] j = refl
     slot-found (t ∷ l) j = go (bears name t) refl (slot-found l (found-tail r t l j))
       where
-        e : judge (drop (t .place) r) ≡ some (t .component)
+        e : numbers (drop (t .place) r) ≡ some (t .component)
         e = j t (List·Memᴰ·head refl)
 
         go : (b : Bool) → bears name t ≡ b → slotAmong r name (placesOf l) ≡ roomOf (slotOf (length r) name l)
@@ -150,10 +146,10 @@ module _ (r : List ℕ) where
 -- By the places of a region's components: its free runs, the slot of a name's bearer, and whether a name is used.
 module _ (r : List ℕ) (a : ℕ) where
   pub runs-listed : runsBetween r a 0 (placesOf (plainListing r a)) ≡ freeRuns r a
-  runs-listed = runs-found r a 0 (plainListing r a) (found r a)
+  runs-listed = runs-found r a 0 (plainListing r a) (listed r a)
 
   pub slot-listed : (name : List ℕ) → slotAmong r name (placesOf (plainListing r a)) ≡ roomOf (slotOf (length r) name (plainListing r a))
-  slot-listed name = slot-found r name (plainListing r a) (found r a)
+  slot-listed name = slot-found r name (plainListing r a) (listed r a)
 
   pub used-listed : (name : List ℕ) → any (named r name) (placesOf (plainListing r a)) ≡ any (bears name) (plainListing r a)
-  used-listed name = same-any r name (plainListing r a) (found r a)
+  used-listed name = same-any r name (plainListing r a) (listed r a)

@@ -2,15 +2,12 @@
 use mathlib.Core.Path.{_≡_, refl}
 use mathlib.Core.List.{[], _∷_}
 use Rattle.number.specs.Number.{be, beBytes}
-use Rattle.number.specs.Bytes.{eqBytes}
-use Rattle.number.specs.Tests.{all}
 use Rattle.bench_image.specs.BenchImage.{larchive, cal, head, slot0, slot192, region, regionA}
-use Rattle.component.specs.Names.{nameTests, nameFits, beforeZero, fieldTests, fieldFits}
-use Rattle.component.specs.Component.{magic, startsWithMagic, componentOf, headerTests, wellFormed, fields, judge}
 use Rattle.walk.specs.Walk.{placesBelow, onward}
 use Rattle.checker.specs.Directory.{named}
 use Rattle.room.specs.Room.{run, spaceOf, spanEnd, runsBetween, slotAmong}
 use Rattle.room.specs.declared.Room.the-variants.{Within, Nowhere}
+use Rattle.component.proofs.Opened.{judging}
 
 ends : spanEnd regionA 0 ∷ spanEnd regionA 192 ∷ spanEnd regionA 5000 ∷ [] ≡ 140 ∷ 256 ∷ 5000 ∷ []
 unfolding be beBytes larchive cal head slot0 slot192 region
@@ -29,5 +26,5 @@ slots : slotAmong regionA (cal 0x32) (0 ∷ 192 ∷ []) ∷ slotAmong regionA (c
     ∷ slotAmong regionA (cal 0x33) (64 ∷ 192 ∷ []) ∷ slotAmong regionA (cal 0x34) (0 ∷ 192 ∷ []) ∷ []
     ≡ Within (spaceOf (run 0 192) 0xFFFFFFFF) ∷ Within (spaceOf (run 0 3072) 0xFFFFFFFF)
     ∷ Within (spaceOf (run 192 3072) 0xFFFFFFFF) ∷ Nowhere ∷ []
-unfolding be beBytes larchive cal head slot0 slot192 region eqBytes all nameTests nameFits beforeZero fieldTests fieldFits magic startsWithMagic componentOf headerTests wellFormed fields judge named slotAmong
+unfolding judging larchive cal head slot0 slot192 region named slotAmong
 slots = refl

@@ -5,12 +5,10 @@ use mathlib.Core.Bool.{Bool, true}
 use mathlib.Core.List.{List, [], _∷_, _++_, map}
 use lib.ListN.{replicate}
 use lib.Dec.{eqb}
-use Rattle.number.specs.Number.{be, le, beBytes, leBytes}
-use Rattle.number.specs.Bytes.{partOf, eqBytes}
-use Rattle.number.specs.Tests.{every, all}
+use Rattle.number.specs.Number.{le, leBytes}
+use Rattle.number.specs.Bytes.{partOf}
+use Rattle.number.specs.Tests.{every}
 use Rattle.number.specs.Lists.{any, keep}
-use Rattle.component.specs.Names.{nameTests, nameFits, beforeZero, fieldTests, fieldFits}
-use Rattle.component.specs.Component.{magic, startsWithMagic, componentOf, headerTests, wellFormed, fields, judge}
 use Rattle.walk.specs.Walk.{placesBelow, places, carries, buried, unless, guarded, orElse, first, step, onward, follow, steps, listingFrom}
 use Rattle.lookup.specs.Lookup.{bears, only}
 use Rattle.terms.specs.Terms.{bytesOf}
@@ -18,6 +16,7 @@ use Rattle.load.specs.Fits.{sourceFits, lenFits, targetFits, loadTests}
 use Rattle.load.proofs.Bench.{component, image, twice, region}
 use Rattle.stage.specs.Stage.{stageTests, stageAnswer, stageOf, stageIn}
 use Rattle.stage.specs.declared.StagePlan.{StagePlan}
+use Rattle.component.proofs.Opened.{judging}
 
 -- The bytes that a stage begins with: compression, entry, load, len, memlen.
 abbrev pub header : ℕ → ℕ → ℕ → ℕ → ℕ → List ℕ
@@ -56,7 +55,7 @@ other-stage = refl
 
 read-stage : stageIn (image 0x10 (header 1 0x77 0x1000 4 0x100 ++ replicate 4 0)) (region 200) (0x70 ∷ [])
     ≡ record { number = 0; place = 0; compression = 1; entry = 0x77; load = 0x1000; source = 132; len = 4; memlen = 0x100 }
-unfolding be le beBytes leBytes partOf eqBytes all nameTests nameFits beforeZero fieldTests fieldFits magic startsWithMagic componentOf headerTests wellFormed fields judge any keep placesBelow places carries buried unless guarded orElse first step onward follow steps listingFrom bears only bytesOf sourceFits lenFits targetFits loadTests stageTests stageAnswer stageOf stageIn
+unfolding judging le leBytes partOf any keep placesBelow places carries buried unless guarded orElse first step onward follow steps listingFrom bears only bytesOf sourceFits lenFits targetFits loadTests stageTests stageAnswer stageOf stageIn
 read-stage = refl
 
 -- A name that nobody bears, and one that is borne twice: the lookup's refusal is the plan's, before the type is looked at.
@@ -65,5 +64,5 @@ abbrev no-stage : ℕ → StagePlan
 no-stage n = record { number = n; place = 0; compression = 0; entry = 0; load = 0; source = 0; len = 0; memlen = 0 }
 
 refused-lookups : (stageIn (twice 0x20) (region 168) (0x71 ∷ []) ≡ no-stage 10) × (stageIn (twice 0x20) (region 168) (0x70 ∷ []) ≡ no-stage 11)
-unfolding be le beBytes leBytes partOf eqBytes all nameTests nameFits beforeZero fieldTests fieldFits magic startsWithMagic componentOf headerTests wellFormed fields judge any keep placesBelow places carries buried unless guarded orElse first step onward follow steps listingFrom bears only bytesOf stageIn
+unfolding judging le leBytes partOf any keep placesBelow places carries buried unless guarded orElse first step onward follow steps listingFrom bears only bytesOf stageIn
 refused-lookups = (refl, refl)

@@ -57,14 +57,15 @@ A-twice = image regionTwice 1024 64 0 0xFFFFFFDC
 
 -- A component whose span has 1052 bytes, at 0, with align 1024.
 abbrev pub wide : List ℕ
-wide = image (head 1012 (cal 0x32) ++ replicate 1012 0) 1024 1024 0 0xFFFFFFDC
+wide = image (head 1012 0 (cal 0x32) ++ replicate 1012 0) 1024 1024 0 0xFFFFFFDC
 
 abbrev pub bounds : ℕ → ℕ → ℕ → Region
 bounds s e a = record { start = s; end = e; align = a }
 
--- A component as a step or a lookup tells it: its place, offset, len, type and the length of its name, and the number to go on from.
-abbrev pub told : ℕ → ℕ → ℕ → ℕ → ℕ → ℕ → Taken
-told p offset len kind named next = record { place = p; header = record { offset = offset; len = len; kind = kind; named = named }; next = next }
+-- A component as a step or a lookup tells it: its place, offset, len, type, checksum and the length of its name, and the number to go on from.
+abbrev pub told : ℕ → ℕ → ℕ → ℕ → ℕ → ℕ → ℕ → Taken
+told p offset len kind sum named next =
+    record { place = p; header = record { offset = offset; len = len; kind = kind; checksum = sum; named = named }; next = next }
 
 -- A component named boot alone at 0, of this type and content: its content begins at 40.
 
@@ -134,30 +135,30 @@ aligns =
 -- ★ Span of 1052 at 0 with align 1024: next place 2048.
 abbrev pub spans : List (Type 0)
 spans =
-    (plainStep wide 0 ≡ Took (told 0 40 1012 table 6 2048))
-    ∷ (guardedStep wide 0 ≡ Took (told 0 40 1012 table 6 2048))
+    (plainStep wide 0 ≡ Took (told 0 40 1012 table 0 6 2048))
+    ∷ (guardedStep wide 0 ≡ Took (told 0 40 1012 table 0 6 2048))
     ∷ []
 
--- ★ Name of 15 bytes: offset 40; of 16: offset 56; of 255: 280.
+-- ★ Name of 15 bytes: offset 40; of 16: offset 56; of 255: 280. By request 5 what is added states its sum.
 abbrev pub offsets : List (Type 0)
 offsets =
-    (plainFind (added A (replicate 15 0x78) 0x50 [] .image) (replicate 15 0x78) ≡ At (told 256 40 0 0x50 15 320))
-    ∷ (plainFind (added A (replicate 16 0x78) 0x50 [] .image) (replicate 16 0x78) ≡ At (told 256 56 0 0x50 16 320))
-    ∷ (plainFind (added A (replicate 255 0x78) 0x50 [] .image) (replicate 255 0x78) ≡ At (told 256 280 0 0x50 255 576))
+    (plainFind (added A (replicate 15 0x78) 0x50 [] .image) (replicate 15 0x78) ≡ At (told 256 40 0 0x50 2510 15 320))
+    ∷ (plainFind (added A (replicate 16 0x78) 0x50 [] .image) (replicate 16 0x78) ≡ At (told 256 56 0 0x50 2646 16 320))
+    ∷ (plainFind (added A (replicate 255 0x78) 0x50 [] .image) (replicate 255 0x78) ≡ At (told 256 280 0 0x50 31295 255 576))
     ∷ []
 
 -- ★ A with cal/12's len made 500: plain listing loses cal/13; guarded lists only cal/13, at 192.
 abbrev pub overrun : List (Type 0)
 overrun =
-    Walked (plainStep A-500) 0 (told 0 40 500 table 6 576 ∷ [])
-    ∷ Walked (guardedStep A-500) 0 (told 192 40 24 table 6 256 ∷ [])
+    Walked (plainStep A-500) 0 (told 0 40 500 table 0 6 576 ∷ [])
+    ∷ Walked (guardedStep A-500) 0 (told 192 40 24 table 0 6 256 ∷ [])
     ∷ (nameAt A-500 192 ≡ cal 0x33)
     ∷ []
 
 -- ★ A with cal/12's name made cal/13: plain lookup gives place 0, guarded refuses 11.
 abbrev pub twice : List (Type 0)
 twice =
-    (plainFind A-twice (cal 0x33) ≡ At (told 0 40 100 table 6 192))
+    (plainFind A-twice (cal 0x33) ≡ At (told 0 40 100 table 0 6 192))
     ∷ (guardedFind A-twice (cal 0x33) ≡ NotFound (refusedBy 11))
     ∷ []
 

@@ -9,29 +9,36 @@ use lib.ListN.{length, getD, replicate}
 use lib.Seq.{getD-append-add}
 use lib.Dec.{lit≤, eqb}
 use borrow.Author.Tests.{lt-ltb, le-leb}
-use Rattle.number.specs.Number.{be, beBytes}
-use Rattle.bench_image.specs.BenchImage.{larchive, cal, head, slot0, slot192, region, regionA, region500, regionTwice}
+use Rattle.number.specs.Number.{beBytes}
+use Rattle.bench_image.specs.BenchImage.{larchive, cal, head, slot0, slot192, region, regionA, region500, regionTwice, regionSummed}
 use Rattle.number.specs.Bytes.{eqBytes}
-use Rattle.number.specs.Tests.{all}
-use Rattle.component.specs.Names.{nameTests, nameFits, beforeZero, fieldTests, fieldFits}
-use Rattle.component.specs.Component.{magic, startsWithMagic, componentOf, headerTests, wellFormed, fields, judge}
 use Rattle.number.specs.Lists.{any, keep, noTwo}
-use Rattle.walk.specs.Walk.{Entry, placesBelow, places, carries, buried, plain, unless, guarded, orElse, first, step, onward, follow, steps, listingFrom, guardedListing}
+use Rattle.walk.specs.Walk.{Entry, placesBelow, places, carries, buried, plain, unless, guarded, orElse, first, step, onward, follow, steps, listingFrom, plainListing, guardedListing}
 use Rattle.lookup.specs.Lookup.{bears, only, gives, guardedLookup}
 use Rattle.strict.specs.Strict.{limit, takes, stray, strays, Accepted, refused, accepted, decide, verdict}
 use Rattle.strict.specs.Slots.{start, within, hit, Spoilt, Kept}
 use Rattle.strict.proofs.Verdicts.{accepted-exactly}
 use Rattle.strict.proofs.Accepting.{spoiling}
+use Rattle.component.proofs.Opened.{judging}
 
-unfoldable entry : ℕ → ℕ → ℕ → Entry
-entry p d n = record { place = p; component = record { offset = 40; len = n; kind = 0xFFFFFFFF; name = cal d; content = replicate n 0 } }
+-- A component of bench image A, stating a sum.
+unfoldable stating : ℕ → ℕ → ℕ → ℕ → Entry
+stating sum p d n = record { place = p; component = record { offset = 40; len = n; kind = 0xFFFFFFFF; checksum = sum; name = cal d; content = replicate n 0 } }
+
+abbrev entry : ℕ → ℕ → ℕ → Entry
+entry = stating 0
+
+-- What is computed below.
+unfoldable opened : ℕ
+unfolding judging larchive cal head slot0 slot192 region stating any keep placesBelow places carries buried plain guarded unless orElse first step onward follow steps listingFrom bears takes stray strays noTwo decide verdict
+opened = 0
 
 listed-A : guardedListing regionA 64 ≡ entry 0 0x32 100 ∷ entry 192 0x33 24 ∷ []
-unfolding beBytes larchive cal head slot0 slot192 region entry be eqBytes all nameTests nameFits beforeZero fieldTests fieldFits magic startsWithMagic componentOf headerTests wellFormed fields judge any placesBelow places carries buried plain guarded unless orElse first step onward follow steps listingFrom
+unfolding opened
 listed-A = refl
 
 verdict-A : verdict limit regionA 64 ≡ accepted (0 ∷ 192 ∷ [])
-unfolding beBytes larchive cal head slot0 slot192 region be eqBytes all nameTests nameFits beforeZero fieldTests fieldFits magic startsWithMagic componentOf headerTests wellFormed fields judge any keep placesBelow places carries plain orElse first step onward follow steps listingFrom bears takes stray strays noTwo decide verdict
+unfolding opened
 verdict-A = refl
 
 accepted-A : Accepted regionA 64
@@ -39,28 +46,51 @@ accepted-A = accepted-exactly regionA 64 (0 ∷ 192 ∷ []) .0 verdict-A .0
 
 -- The plain walk loses cal/13, and the strict check refuses with its place.
 verdict-500 : verdict limit region500 64 ≡ refused 12 192
-unfolding beBytes larchive cal head slot0 slot192 region be eqBytes all nameTests nameFits beforeZero fieldTests fieldFits magic startsWithMagic componentOf headerTests wellFormed fields judge any keep placesBelow places carries plain orElse first step onward follow steps listingFrom bears takes stray strays noTwo decide verdict
+unfolding opened
 verdict-500 = refl
+
+-- Request 5: with the sums stated, 2200 and 2125, A is accepted. A sum one off, of either component, is 12 at its place.
+verdict-sums :
+    verdict limit regionSummed 64
+    ∷ verdict limit (region 100 2199 (cal 0x32) 2125) 64
+    ∷ verdict limit (region 100 2201 (cal 0x32) 2125) 64
+    ∷ verdict limit (region 100 2200 (cal 0x32) 2126) 64
+    ∷ []
+    ≡ accepted (0 ∷ 192 ∷ []) ∷ refused 12 0 ∷ refused 12 0 ∷ refused 12 192 ∷ []
+unfolding opened
+verdict-sums = refl
+
+-- With cal/12's len made 500 the sum of its 540 bytes is 90150. Where that is stated, the plain walk takes it and loses cal/13: 12 at 192. Where another
+-- sum is, it takes cal/13 and not cal/12: 12 at 0.
+verdict-500-sums : verdict limit (region 500 90150 (cal 0x32) 0) 64 ∷ verdict limit (region 500 90151 (cal 0x32) 0) 64 ∷ [] ≡ refused 12 192 ∷ refused 12 0 ∷ []
+unfolding opened
+verdict-500-sums = refl
+
+-- Neither walk lists a component with a wrong sum; both go on to the next one.
+listed-sums : guardedListing regionSummed 64 ∷ guardedListing (region 100 2199 (cal 0x32) 2125) 64 ∷ plainListing (region 100 2199 (cal 0x32) 2125) 64 ∷ []
+    ≡ (stating 2200 0 0x32 100 ∷ stating 2125 192 0x33 24 ∷ []) ∷ (stating 2125 192 0x33 24 ∷ []) ∷ (stating 2125 192 0x33 24 ∷ []) ∷ []
+unfolding opened
+listed-sums = refl
 
 -- The order 12, 13, 11: where 12 and 13 would both be given, 12 is; where 13 and 11, 13 is; 11 by itself. One component is allowed, or none.
 verdict-order : verdict 0 region500 64 ∷ verdict 1 regionTwice 64 ∷ verdict 2 regionTwice 64 ∷ verdict 1 regionA 64 ∷ []
     ≡ refused 12 192 ∷ refused 13 0 ∷ refused 11 0 ∷ refused 13 0 ∷ []
-unfolding beBytes larchive cal head slot0 slot192 region be eqBytes all nameTests nameFits beforeZero fieldTests fieldFits magic startsWithMagic componentOf headerTests wellFormed fields judge any keep placesBelow places carries plain orElse first step onward follow steps listingFrom bears takes stray strays noTwo decide verdict
+unfolding opened
 verdict-order = refl
 
 -- 1,024 components are allowed, and 1,025 are not: with names that are all alike, 11 is given for 1,024, and 13, which comes first, for 1,025.
 limits : decide limit [] (replicate 1024 (entry 0 0x32 0)) ∷ decide limit [] (replicate 1025 (entry 0 0x32 0)) ∷ [] ≡ refused 11 0 ∷ refused 13 0 ∷ []
-unfolding decide noTwo any bears eqBytes cal entry
+unfolding decide noTwo any bears eqBytes cal stating
 limits = refl
 
 -- With document 01's limit, 256 were allowed, and 257 were not.
 limits-before : decide 256 [] (replicate 256 (entry 0 0x32 0)) ∷ decide 256 [] (replicate 257 (entry 0 0x32 0)) ∷ [] ≡ refused 11 0 ∷ refused 13 0 ∷ []
-unfolding decide noTwo any bears eqBytes cal entry
+unfolding decide noTwo any bears eqBytes cal stating
 limits-before = refl
 
 -- The guarded walk lists only cal/13, at 192.
 listed-500 : guardedListing region500 64 ≡ entry 192 0x33 24 ∷ []
-unfolding beBytes larchive cal head slot0 slot192 region entry be eqBytes all nameTests nameFits beforeZero fieldTests fieldFits magic startsWithMagic componentOf headerTests wellFormed fields judge any placesBelow places carries buried plain guarded unless orElse first step onward follow steps listingFrom
+unfolding opened
 listed-500 = refl
 
 -- This spoils the slot at 0 and nothing else.
@@ -77,11 +107,11 @@ unfolding beBytes larchive cal head slot0 slot192 region
 length-500 = refl
 
 slots-A : (hit first-slot regionA 64 191 ≡ true) × (hit first-slot regionA 64 192 ≡ false) × (hit (λ p. eqb p 192) regionA 64 191 ≡ false) × (hit (λ p. eqb p 192) regionA 64 3071 ≡ true)
-unfolding within start entry
+unfolding within start stating
 slots-A = (rw listed-A, rw listed-A, rw listed-A, rw (listed-A, length-A))
 
 hit-first : (i : ℕ) → i < 192 → hit first-slot regionA 64 i ≡ true
-unfolding within start entry
+unfolding within start stating
 hit-first i h = rw (listed-A, lt-ltb i 192 h, le-leb 0 i (omega arith))
 
 past : (xs ys : List ℕ) (i : ℕ) → length xs ≡ 192 → 192 ≤ i → getD (xs ++ ys) i 0 ≡ getD ys (i - 192) 0
@@ -89,13 +119,13 @@ past xs ys i l h =
     let e : i ≡ length xs + (i - 192) = omega arith in
     ap (λ (n : ℕ). getD (xs ++ ys) n 0) e ∙ getD-append-add xs ys (i - 192) 0
 
-length-slot : (len : ℕ) → length (slot0 len (cal 0x32)) ≡ 192
+length-slot : (len : ℕ) → length (slot0 len 0 (cal 0x32)) ≡ 192
 unfolding beBytes larchive cal head slot0
 length-slot len = refl
 
 same-past : (i : ℕ) → 192 ≤ i → getD region500 i 0 ≡ getD regionA i 0
 unfolding region
-same-past i h = past (slot0 500 (cal 0x32)) slot192 i (length-slot 500) h ∙ sym (past (slot0 100 (cal 0x32)) slot192 i (length-slot 100) h)
+same-past i h = past (slot0 500 0 (cal 0x32)) (slot192 0) i (length-slot 500) h ∙ sym (past (slot0 100 0 (cal 0x32)) (slot192 0) i (length-slot 100) h)
 
 spoilt-500 : Spoilt first-slot regionA 64 region500
 spoilt-500 = record { alike = length-500 ∙ sym length-A; rest = λ i e. go i e (decLt i 192) }
@@ -109,5 +139,5 @@ kept-500 = spoiling regionA 64 (lit≤ tt) accepted-A first-slot region500 spoil
 
 -- So cal/13 is found as before.
 found-500 : guardedLookup region500 64 (cal 0x33) ≡ gives (entry 192 0x33 24)
-unfolding keep bears eqBytes cal entry only
+unfolding keep bears eqBytes cal stating only
 found-500 = rw listed-500

@@ -13,10 +13,10 @@ use lib.ListN.{length, drop}
 use borrow.Author.Tests.{eq-eqb, ne-eqb}
 use Rattle.component.specs.Component.{Component, span, judge}
 use Rattle.number.specs.Lists.{any, keep}
-use Rattle.walk.specs.Walk.{Entry, placesBelow, places, carries, nextMagic, plain, step, onward, listingFrom, Place}
+use Rattle.walk.specs.Walk.{Entry, placesBelow, places, carries, nextMagic, plain, step, onward, listingFrom, Place, Stop}
 use Rattle.walk.proofs.Places.{no-places, below-next, below-end, below-unique, mem-places}
 use Rattle.walk.proofs.Hunting.{next-end, next-here, next-not, next-above, next-carries, by-places, over-quiet, quiet-all}
-use Rattle.walk.proofs.Steps.{Stop, Listed, mem-steps, onward-stop, onward-far, rest-none, rest-some, step-here, step-next}
+use Rattle.walk.proofs.Steps.{Listed, mem-steps, onward-stop, onward-far, rest-none, rest-some, rest-same, step-here, step-next}
 use Rattle.walk.proofs.Stepping.{hunted, pick-fits, step-no-places, step-past}
 use Rattle.walk.proofs.Picks.{plain-fits}
 use Rattle.strict.specs.Strict.{takes, stray, strays}
@@ -46,13 +46,7 @@ plainFrom r a n = listingFrom (plain r) r a n
 
 -- Where a step gives the same, so does the listing.
 pub list-same : (r : List ℕ) (a n m : ℕ) → step (plain r) r a n ≡ step (plain r) r a m → plainFrom r a n ≡ plainFrom r a m
-list-same r a n m s = go (step (plain r) r a n) refl (decLt 0 a)
-  where
-    go : (o : Option Entry) → step (plain r) r a n ≡ o → Dec (0 < a) → plainFrom r a n ≡ plainFrom r a m
-    go none e d = rest-none (plain r) r a n e ∙ sym (rest-none (plain r) r a m (sym s ∙ e))
-    go (some t) e (yes pos) = rest-some (plain r) r a pos (pick-fits false r a pos) n t e ∙ sym (rest-some (plain r) r a pos (pick-fits false r a pos) m t (sym s ∙ e))
-    go (some t) e (no h) =
-        rest-none (plain r) r a n (step-no-places (plain r) r a n (omega arith)) ∙ sym (rest-none (plain r) r a m (step-no-places (plain r) r a m (omega arith)))
+list-same r a n m s = rest-same (plain r) r a n m s
 
 -- From any number the listing is that from the next magic on; with none left it is empty.
 

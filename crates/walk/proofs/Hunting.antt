@@ -2,7 +2,7 @@
 use Prim.Native.Nat.{ℕ, zero, suc, _+_, _*_, _-_, _≤_, _<_, min}
 use native.Mathlib.Nat.{sub-zero, zero-add, mul-le-mul-right}
 use native.Mathlib.Omega.{arith}
-use native.Mathlib.Decide.{decLt}
+use native.Mathlib.Decide.{decLt, decLe}
 use mathlib.Core.Path.{_≡_, refl, sym, ap, _∙_}
 use mathlib.Core.List.{List}
 use mathlib.Core.Bool.{Bool, true, false, cond, _||_, true≢false}
@@ -147,6 +147,46 @@ module _ (r : List ℕ) (a : ℕ) (pos : 0 < a) where
   buried-hunt p n =
       let e : p + n - (p + a) ≡ n - a = omega arith in
       rw (fewer n, e) (any-seek (carries r) (p + n) (placesBelow a (n - a)) (p + a) (inside p n))
+
+  -- Where the hunt finds nothing up to e, it may go on behind e: from the first number of its steps that is not below e, or from the end.
+
+  over : (e b k m : ℕ) → e ≤ b → ((i : ℕ) → i < k → m + i * a < e) → e ≤ nextMagic r a m e → nextMagic r a m b ≡ nextMagic r a (m + k * a) b
+  over e b zero m h l q = let z : m ≡ m + 0 * a = omega arith in ap (λ (x : ℕ). nextMagic r a x b) z
+  over e b (suc k) m h l q = go (carries r m) refl (λ f. over e b k (m + a) h (λ i i<. omega (arith, l (suc i) (omega arith))) f)
+    where
+      lt : m < e
+      lt = omega (arith, l 0 (omega arith))
+
+      go : (t : Bool) → carries r m ≡ t
+          → (e ≤ nextMagic r a (m + a) e → nextMagic r a (m + a) b ≡ nextMagic r a (m + a + k * a) b) → nextMagic r a m b ≡ nextMagic r a (m + suc k * a) b
+      go true y ih = absurd (omega (arith, q, lt, next-here m e lt y))
+      go false y ih =
+          let z : m + a + k * a ≡ m + suc k * a = omega arith in
+          next-not m b (omega (arith, lt)) y ∙ ih (rw (next-not m e lt y) at q) ∙ ap (λ (x : ℕ). nextMagic r a x b) z
+
+  pub behind : (p e b n : ℕ) → p < e → e ≤ b → e ≤ nextMagic r a (p + a) e → n ≡ min (placesBelow a (e - p) * a) (b - p)
+      → nextMagic r a (p + a) b ≡ nextMagic r a (p + n) b
+  behind p e b n lt h q d = all ∙ go (decLe (p + k * a) b)
+    where
+      k : ℕ
+      k = placesBelow a (e - p)
+
+      one : 0 < k
+      one = omega (arith, rw (sub-zero, zero-add) at (below-next a pos (e - p) 0 (omega arith)))
+
+      all : nextMagic r a (p + a) b ≡ nextMagic r a (p + k * a) b
+      all =
+          let f : k - 1 ≡ placesBelow a (e - p - a) = fewer (e - p) in
+          let z : p + a + (k - 1) * a ≡ p + k * a = last k one in
+          over e b (k - 1) (p + a) h (λ i l. omega (arith, inside p (e - p) i (omega arith))) q ∙ ap (λ (x : ℕ). nextMagic r a x b) z
+        where
+          last : (c : ℕ) → 0 < c → p + a + (c - 1) * a ≡ p + c * a
+          last zero l = absurd (omega arith)
+          last (suc c) l = let y : suc c - 1 ≡ c = omega arith in rw y (omega arith)
+
+      go : Dec (p + k * a ≤ b) → nextMagic r a (p + k * a) b ≡ nextMagic r a (p + n) b
+      go (yes l) = let z : k * a ≡ n = omega arith in rw z
+      go (no l) = next-end (p + k * a) b (omega arith) ∙ sym (next-end (p + n) b (omega arith))
 
 -- Past its end the hunt finds nothing, at any alignment.
 pub next-past : (r : List ℕ) (a n b : ℕ) → b ≤ n → nextMagic r a n b ≡ b

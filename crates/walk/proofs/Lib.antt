@@ -4,5 +4,6 @@ pub mod Steps
 pub mod Picks
 pub mod Stepping
 pub mod Standing
+pub mod Candidates
 pub mod Members
 pub mod Rounding

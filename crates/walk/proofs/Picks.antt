@@ -43,7 +43,7 @@ plain-fits r p h e =
     let k : span h ≤ length r - p = rw (length-drop) at (b .1) in
     (omega (arith, b .0), omega (arith, b .0))
 
-unless-some : (bad : Component → Bool) (o : Option Component) (h : Component) → unless bad o ≡ some h → (o ≡ some h) × (bad h ≡ false)
+pub unless-some : (bad : Component → Bool) (o : Option Component) (h : Component) → unless bad o ≡ some h → (o ≡ some h) × (bad h ≡ false)
 unfolding unless
 unless-some bad none h e = absurd (Option·none-ne-some h e)
 unless-some bad (some g) h e = go (bad g) refl e
@@ -51,6 +51,14 @@ unless-some bad (some g) h e = go (bad g) refl e
     go : (b : Bool) → bad g ≡ b → cond b none (some g) ≡ some h → (some g ≡ some h) × (bad h ≡ false)
     go true q e′ = absurd (Option·none-ne-some h e′)
     go false q e′ = (e′, rw (← Option·some-injective g h e′) q)
+
+pub unless-bad : (bad : Component → Bool) (c : Component) (o : Option Component) → o ≡ some c → bad c ≡ true → unless bad o ≡ none
+unfolding unless
+unless-bad bad c o e b = rw (e, b)
+
+pub unless-good : (bad : Component → Bool) (c : Component) (o : Option Component) → o ≡ some c → bad c ≡ false → unless bad o ≡ some c
+unfolding unless
+unless-good bad c o e b = rw (e, b)
 
 module _ (r : List ℕ) (a : ℕ) (pos : 0 < a) where
   pub buried-false : (p n : ℕ) → Place a p → buried r a p n ≡ false → (q : ℕ) → Place a q → p < q → q < p + n → carries r q ≡ false
@@ -79,8 +87,8 @@ module _ (r : List ℕ) (a : ℕ) (pos : 0 < a) where
   guarded-plain p h e = unless-some (λ g. buried r a p (span g)) (judge (drop p r)) h e
 
   pub guarded-of : (p : ℕ) (h : Component) → plain r p ≡ some h → buried r a p (span h) ≡ false → guarded r a p ≡ some h
-  unfolding guarded plain unless
-  guarded-of p h e b = rw (e, b)
+  unfolding guarded plain
+  guarded-of p h e b = unless-good (λ c. buried r a p (span c)) h (judge (drop p r)) e b
 
   pub guarded-carries : (p : ℕ) (h : Component) → guarded r a p ≡ some h → carries r p ≡ true
   guarded-carries p h e = plain-carries r p h (guarded-plain p h e .0)

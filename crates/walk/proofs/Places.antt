@@ -38,6 +38,10 @@ module _ (a : ℕ) (pos : 0 < a) where
       let v : c * a ≤ placesBelow a n * a = place-le c (placesBelow a n) (omega arith) in
       eq-of-mul-eq-mul-right a pos (placesBelow a n) c (omega arith)
 
+  -- Counted on from a place.
+  pub below-add : (i n : ℕ) → placesBelow a (i * a + n) ≡ i + placesBelow a n
+  below-add i n = let l = below-ge n in let h = below-lt n in below-unique (i * a + n) (i + placesBelow a n) (omega arith) (omega arith)
+
   pub below-zero : placesBelow a 0 ≡ 0
   below-zero = below-unique 0 0 (omega arith) (omega arith)
 

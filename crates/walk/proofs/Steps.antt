@@ -9,7 +9,7 @@ use mathlib.Core.Logic.{_⊎_, inl, inr}
 use mathlib.Core.Option.{Option, some, none, Option·some-injective, Option·none-ne-some, Option·some-ne-none}
 use lib.ListN.{length}
 use Rattle.component.specs.Component.{Component, span}
-use Rattle.walk.specs.Walk.{Entry, Pick, end, placesBelow, places, allPlaces, orElse, first, onward, step, follow, steps, listing, listingFrom, prepend, picked, Place}
+use Rattle.walk.specs.Walk.{Entry, Pick, end, placesBelow, places, allPlaces, orElse, first, onward, step, follow, steps, listing, listingFrom, prepend, picked, Place, Stop}
 use Rattle.walk.proofs.Places.{below-ge, below-lt, below-next, below-end, below-pos, gap}
 
 -- A listing ends where no component is left.
@@ -21,10 +21,6 @@ rest-none pick r a n e = go (length r)
     go zero = refl
     go (suc k) = rw e
 
--- A number to step from.
-abbrev pub Stop : List ℕ → ℕ → ℕ → Type 0
-Stop r a n = Place a n ⊎ (length r ≤ n)
-
 pub onward-stop : (r : List ℕ) (a b : ℕ) → Stop r a (onward r a b)
 unfolding onward
 onward-stop r a b = go (decLe (placesBelow a b * a) (length r))
@@ -32,6 +28,15 @@ onward-stop r a b = go (decLe (placesBelow a b * a) (length r))
     go : Dec (placesBelow a b * a ≤ length r) → Stop r a (min (placesBelow a b * a) (length r))
     go (yes h) = inl (placesBelow a b, omega arith)
     go (no g) = inr (omega arith)
+
+-- The steps from two numbers are the same where the first step is.
+pub rest-same : (pick : Pick) (r : List ℕ) (a n m : ℕ) → step pick r a n ≡ step pick r a m → listingFrom pick r a n ≡ listingFrom pick r a m
+unfolding listingFrom steps
+rest-same pick r a n m e = go (length r)
+  where
+    go : (k : ℕ) → steps pick r a k n ≡ steps pick r a k m
+    go zero = refl
+    go (suc k) = ap (follow (λ m. steps pick r a k m) (λ t. onward r a (end t))) e
 
 -- What lies neither past b nor past the region's end does not lie past the number to go on from after b.
 pub onward-far : (r : List ℕ) (a : ℕ) → 0 < a → (b n : ℕ) → n ≤ b → n ≤ length r → n ≤ onward r a b
@@ -123,7 +128,7 @@ module _ (pick : Pick) (r : List ℕ) (a : ℕ) (pos : 0 < a) where
   abbrev pub Exclusive : Type 0
   Exclusive = (p : ℕ) (h : Component) → Place a p → pick p ≡ some h → (q : ℕ) → Place a q → p < q → q < p + span h → pick q ≡ none
 
-  first-place : (n : ℕ) (t : Entry) → Stop r a n → First n t → Place a (t .place)
+  pub first-place : (n : ℕ) (t : Entry) → Stop r a n → First n t → Place a (t .place)
   first-place n t (inl pl) f = (pl .0 + f .skipped, omega (arith, pl .1))
   first-place n t (inr h) f = absurd (omega (arith, f .at, f .inside))
 

@@ -4,9 +4,10 @@ use Prim.Native.Nat.{ℕ, zero, suc, _+_, _*_, _-_, _/_, _%_, _≤_, min}
 use mathlib.Core.Path.{_≡_}
 use mathlib.Core.List.{List, [], _∷_}
 use mathlib.Core.Bool.{Bool, true, false, cond}
+use mathlib.Core.Logic.{_⊎_}
 use mathlib.Core.Option.{Option, some, none}
 use lib.ListN.{length, drop}
-use Rattle.component.specs.Component.{Component, span, judge, startsWithMagic, headerOf}
+use Rattle.component.specs.Component.{Component, span, judge, headed, startsWithMagic, headerOf}
 use Rattle.number.specs.Lists.{any}
 use Rattle.walk.specs.declared.Taken.{Taken}
 use Rattle.walk.specs.declared.Step.{Step}
@@ -137,6 +138,20 @@ told r a (some t) = Took (takenOf r a t)
 abbrev pub pickOf : Bool → List ℕ → ℕ → Pick
 pickOf true r a = guarded r a
 pickOf false r a = plain r
+
+-- The same by document 01's tests alone, the sum not looked at: what a walk finds at a place before it takes the sum.
+abbrev pub candidateOf : Bool → List ℕ → ℕ → Pick
+candidateOf true r a p = unless (λ c. buried r a p (span c)) (headed (drop p r))
+candidateOf false r a p = headed (drop p r)
+
+-- What the code goes by: a walk, or its candidates.
+abbrev pub chosen : Bool → Bool → List ℕ → ℕ → Pick
+chosen true g r a = pickOf g r a
+chosen false g r a = candidateOf g r a
+
+-- A number to step from: a place, or the region's end or past it.
+abbrev pub Stop : List ℕ → ℕ → ℕ → Type 0
+Stop r a n = ((i : ℕ) × (n ≡ i * a)) ⊎ (length r ≤ n)
 
 -- For what is promised: p is a multiple of a.
 abbrev pub Place : ℕ → ℕ → Type 0

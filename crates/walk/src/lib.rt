@@ -3,10 +3,11 @@
 use component::Header;
 use component::Judged;
 ghost use mathlib.Core.Path.{_≡_};
-ghost use mathlib.Core.Bool.{false, cond};
-ghost use Prim.Native.Nat.{_+_, _-_, _≤_, _<_};
+ghost use mathlib.Core.Bool.{true, cond};
+ghost use Prim.Native.Nat.{_+_, _≤_, _<_};
 ghost use lib.ListN.{length};
-ghost use Rattle.walk.specs.Walk.{nextMagic, onward as onwardOf, step as stepOf, told, pickOf, plain};
+ghost use Rattle.walk.specs.Walk.{nextMagic, onward as onwardOf, step as stepOf, told, candidateOf, pickOf, chosen};
+ghost use Rattle.component.specs.Sums.{sumFits};
 
 // A component that a walk has taken, and the number to go on from.
 pub struct Taken {
@@ -110,26 +111,54 @@ pub fn onward(r: &[u8], align: usize, n: usize) -> usize
     n + (align - over)
 }
 
-// A step of either walk. Each place is compared with the magic once: the hunt ends at the span's end or at the next candidate.
-pub fn walk_step(guarded: bool, r: &[u8], align: usize, from: usize) -> Step
-    ensures { λ s. ⌜ s ≡ told (now (r .entry)) align (stepOf (pickOf guarded (now (r .entry)) align) (now (r .entry)) align from) ⌝ }
-    ensures kept { λ _. ⌜ now (r .exit) ≡ now (r .entry) ⌝ }
+// Where the guarded walk, or the plain one, finds the next magic behind a header at p whose span, up to e, states a wrong sum. In the guarded walk no later
+// place inside the span carries the magic, and none of them is compared again; places are counted from p. The plain walk goes one align further.
+fn past(guarded: bool, r: &[u8], align: usize, p: usize, e: usize) -> usize
+    requires { ⌜ (0 < align) × (p < e) × (e ≤ length (now r)) × (e ≤ cond guarded (nextMagic (now r) align (p + align) e) e) ⌝ }
+    ensures { λ q. ⌜ q ≡ nextMagic (now (r .entry)) align (p + align) (length (now (r .entry))) ⌝ }
+{
+    if guarded {
+        let n = onward(&r[p..], align, e - p);
+        return next_magic(r, align, p + n, r.len());
+    }
+    next_after(r, align, p, r.len())
+}
+
+// The span states no sum or the right one, or that is not asked.
+fn fits(summed: bool, span: &[u8]) -> bool
+    ensures { λ b. ⌜ b ≡ cond summed (sumFits (now (span .entry))) true ⌝ }
+{
+    if summed {
+        return component::sum_fits(span);
+    }
+    true
+}
+
+// A step of either walk; or, where the sum is not asked, the first header that document 01's tests accept and the guard lets pass, and the number to go on
+// from behind its span. Each place is compared with the magic once: the hunt ends at the span's end or at the next candidate. The sum is taken last: in
+// the guarded walk no byte is summed twice, and none where the guard has found a magic.
+fn walk_to(guarded: bool, summed: bool, r: &[u8], align: usize, from: usize) -> Step
+    ensures { λ s. ⌜ s ≡ told (now (r .entry)) align (stepOf (chosen summed guarded (now (r .entry)) align) (now (r .entry)) align from) ⌝ }
 {
     let mut p = next_magic(r, align, from, r.len());
     while p < r.len() {
-        let j = component::fields(&r[p..]);
+        let j = component::numbers(&r[p..]);
         match j {
             Judged::WellFormed(h) => {
                 let e = p + (h.offset + h.len);
                 let q = guard(guarded, r, align, p, e);
                 if e <= q {
-                    return Step::Took(Taken {
-                        place: p,
-                        header: h,
-                        next: onward(r, align, e),
-                    });
+                    if fits(summed, &r[p..e]) {
+                        return Step::Took(Taken {
+                            place: p,
+                            header: h,
+                            next: onward(r, align, e),
+                        });
+                    }
+                    p = past(guarded, r, align, p, e);
+                } else {
+                    p = q;
                 }
-                p = q;
             }
             Judged::IllFormed => {
                 p = next_after(r, align, p, r.len());
@@ -139,10 +168,18 @@ pub fn walk_step(guarded: bool, r: &[u8], align: usize, from: usize) -> Step
     Step::NoneLeft
 }
 
-// The first component that a plain walk begun at `from` takes.
-pub fn plain_step(r: &[u8], align: usize, from: usize) -> Step
-    ensures { λ s. ⌜ s ≡ told (now (r .entry)) align (stepOf (plain (now (r .entry))) (now (r .entry)) align from) ⌝ }
+// The first header from `from` on that document 01's tests accept and the guard lets pass, its sum not looked at; and the number to go on from behind its span.
+pub fn candidate(r: &[u8], align: usize, from: usize) -> Step
+    ensures { λ s. ⌜ s ≡ told (now (r .entry)) align (stepOf (candidateOf true (now (r .entry)) align) (now (r .entry)) align from) ⌝ }
     ensures kept { λ _. ⌜ now (r .exit) ≡ now (r .entry) ⌝ }
 {
-    walk_step(false, r, align, from)
+    walk_to(true, false, r, align, from)
+}
+
+// A step of either walk.
+pub fn walk_step(guarded: bool, r: &[u8], align: usize, from: usize) -> Step
+    ensures { λ s. ⌜ s ≡ told (now (r .entry)) align (stepOf (pickOf guarded (now (r .entry)) align) (now (r .entry)) align from) ⌝ }
+    ensures kept { λ _. ⌜ now (r .exit) ≡ now (r .entry) ⌝ }
+{
+    walk_to(guarded, true, r, align, from)
 }

@@ -1,7 +1,7 @@
 use Prim.Native.Nat.{ℕ}
 use mathlib.Core.Path.{_≡_, sym, ap, _∙_}
 use mathlib.Core.List.{List}
-use Rattle.component.specs.Component.{judge, bearsName}
+use Rattle.component.specs.Component.{numbers, bearsName}
 use Rattle.checker.specs.Directory.{named}
 use Rattle.checker.proofs.Names.{named-not}
 use borrow.Author.Needs.{needs}
@@ -25,7 +25,7 @@ unfolding named
 returns-2 c =
     let t = c .before in
     let s = t .before .before .before .before in
-    c .is-named .ensures .0 ∙ ap (λ (x : List ℕ). bearsName (s .args .name .now) (judge x)) (t .rest .ensures .0)
+    c .is-named .ensures .0 ∙ ap (λ (x : List ℕ). bearsName (s .args .name .now) (numbers x)) (t .rest .ensures .0)
 
 pub has-name-spec : {M : Type 1} → statement M
 has-name-spec = tie.close (tie.spec returns rest-requires is-named-requires returns-2)

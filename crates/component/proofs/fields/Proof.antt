@@ -1,123 +1,80 @@
-use mathlib.Core.Path.{sym, refl, _∙_}
-use borrow.Author.Tests.{le-leb, lt-leb, eq-eqb, ne-eqb}
-use Rattle.component.specs.Component.{headerTests}
-use Rattle.component.proofs.Naming.{length-zero, length-pos}
-use Rattle.component.proofs.Judging.{fields-bad, fields-good}
+use Prim.Native.Nat.{_+_, _≤_}
+use native.Mathlib.Nat.{sub-zero}
+use native.Mathlib.Omega.{arith}
+use mathlib.Core.Path.{_≡_, refl, sym, ap, _∙_}
+use lib.ListN.{length, take, length-take}
+use Rattle.component.specs.Sums.{sumFits}
+use Rattle.component.specs.Component.{numbers, judged}
+use Rattle.component.specs.declared.Judged.the-variants.{WellFormed}
+use Rattle.component.proofs.Judging.{numbers-header, ill-numbers, header-summed}
 use borrow.Author.Needs.{needs}
 use Rattle.component.proofs.fields.Statement.{statement}
 use Rattle.component.proofs.fields.Tie as tie
 
--- the place after the first two numbers were read, and the function's start
-abbrev start : tie.After-be322 → tie.Start
+numbers-requires : tie.Need-numbers-requires
+numbers-requires c κs = search needs
+
+-- what the judge of the numbers said, and what it tells
+abbrev start : tie.After-j → tie.Start
 start c = c .before .before .before .before
 
+said : (c : tie.After-j) → judged (numbers (start c .args .s .now)) ≡ WellFormed (c .j .given .0 .0)
+said c = sym (c .before .before .numbers .ensures .0) ∙ c .j .given .1
+
+fits : (c : tie.After-j) → (40 ≤ c .j .given .0 .0 .offset) × (c .j .given .0 .0 .offset + c .j .given .0 .0 .len ≤ length (start c .args .s .now))
+fits c = numbers-header (start c .args .s .now) _ (said c)
+
+-- what the sum says
+summed : (c : tie.After-sum-fits) → let j = c .before .before .before .before in
+    sumFits (take (j .j .given .0 .0 .offset + j .j .given .0 .0 .len) (start j .args .s .now)) ≡ c .sum-fits .result
+summed c = sym (rw sub-zero at (c .sum-fits .ensures .0))
+
+enum-told : tie.Need-enum-told
+enum-told c = search needs
+
+enum-known-j : tie.Need-enum-known-j
+enum-known-j c = search needs
+
+add-n : tie.Need-add-n
+add-n c = omega (arith, fits (c .before .before))
+
+sub-sum-fits : tie.Need-sub-sum-fits
+sub-sum-fits c = search needs
+
+part-sum-fits-start : tie.Need-part-sum-fits-start
+part-sum-fits-start c = search needs
+
+part-sum-fits-end : tie.Need-part-sum-fits-end
+part-sum-fits-end c = let f = fits (c .before .before) in search needs
+
+sum-fits-requires : tie.Need-sum-fits-requires
+sum-fits-requires c κs = search needs
+
 returns : tie.Need-returns
-unfolding headerTests
-returns c = (fields-bad (c .before .before .args .s .now) _ _ 0 refl refl (lt-leb _ _ (c .if1 .taken)), refl)
-
-be32-requires : tie.Need-be32-requires
-be32-requires c κs = search needs
-
-cast-offset : tie.Need-cast-offset
-cast-offset c = search needs
-
-be32-requires-2 : tie.Need-be32-requires-2
-be32-requires-2 c κs = search needs
-
-cast-len : tie.Need-cast-len
-cast-len c = search needs
-
-be32-requires-3 : tie.Need-be32-requires-3
-be32-requires-3 c κs = search needs
+returns c =
+    let j = c .before .before .before .before .before in
+    (sym (header-summed (start j .args .s .now) _ _ (said j) (summed (c .before) ∙ c .if1 .taken)), refl)
 
 returns-2 : tie.Need-returns-2
-unfolding headerTests
-returns-2 c =
-    let r = c .before .before in
-    (fields-bad (start r .args .s .now) _ _ 1 (r .before .be32 .ensures .0) (r .be322 .ensures .0) (lt-leb _ _ (c .if2 .taken)), refl)
+returns-2 c = (sym (ap judged (ill-numbers (c .before .before .before .before .args .s .now) (sym (c .before .before .numbers .ensures .0) ∙ c .enum-told .given .1))), refl)
 
 returns-3 : tie.Need-returns-3
-unfolding headerTests
 returns-3 c =
-    let r = c .before .before .before in
-    (fields-bad (start r .args .s .now) _ _ 2 (r .before .be32 .ensures .0) (r .be322 .ensures .0) (lt-leb _ _ (c .if3 .taken)), refl)
-
-sub-if4 : tie.Need-sub-if4
-sub-if4 c = search needs
-
-returns-4 : tie.Need-returns-4
-unfolding headerTests
-returns-4 c =
-    let r = c .before .before .before .before in
-    (fields-bad (start r .args .s .now) _ _ 3 (r .before .be32 .ensures .0) (r .be322 .ensures .0) (ne-eqb _ _ (c .if4 .taken)), refl)
-
-add-if5 : tie.Need-add-if5
-add-if5 c = search needs
-
-returns-5 : tie.Need-returns-5
-unfolding headerTests
-returns-5 c =
-    let r = c .before .before .before .before .before in
-    (fields-bad (start r .args .s .now) _ _ 4 (r .before .be32 .ensures .0) (r .be322 .ensures .0) (lt-leb _ _ (c .if5 .taken)), refl)
-
-sub-name-length : tie.Need-sub-name-length
-sub-name-length c = search needs
-
-part-name-length-start : tie.Need-part-name-length-start
-part-name-length-start c = search needs
-
-part-name-length-end : tie.Need-part-name-length-end
-part-name-length-end c = search needs
-
-name-length-requires : tie.Need-name-length-requires
-name-length-requires c κs = search needs
-
-returns-6 : tie.Need-returns-6
-unfolding headerTests
-returns-6 c =
-    let n = c .before in
-    let r = n .before .before .before .before .before .before .before in
-    (fields-bad (start r .args .s .now) (r .before .be32 .result) (r .be322 .result) 5 (r .before .be32 .ensures .0) (r .be322 .ensures .0) (length-zero _ (sym (n .name-length .ensures .0) ∙ c .if6 .taken)), refl)
-
-returns-7 : tie.Need-returns-7
-unfolding headerTests
-returns-7 c =
-    let n = c .before in
-    let i5 = n .before .before in
-    let k = i5 .before .before .before .before in
-    let r = k .before in
-    let s = start r .args .s .now in (
-      fields-good s _ (r .before .be32 .ensures .0) (r .be322 .ensures .0) (k .be323 .ensures .0) (n .name-length .ensures .0)
-          (rw (
-            le-leb _ _ (r .before .before .if1 .left),
-            le-leb _ _ (i5 .before .before .before .if2 .left),
-            le-leb _ _ (i5 .before .before .if3 .left),
-            eq-eqb _ _ (i5 .before .if4 .left),
-            le-leb _ _ (i5 .if5 .left),
-            length-pos _ _ (n .name-length .ensures .0) (c .if6 .left),
-          )),
-      refl,
-    )
+    let j = c .before .before .before .before .before in
+    (sym (header-summed (start j .args .s .now) _ _ (said j) (summed (c .before) ∙ c .if1 .left)), refl)
 
 pub fields-spec : {M : Type 1} → statement M
 fields-spec =
     tie.close
     (tie.spec
+    numbers-requires
+    enum-told
+    enum-known-j
+    add-n
+    sub-sum-fits
+    part-sum-fits-start
+    part-sum-fits-end
+    sum-fits-requires
     returns
-    be32-requires
-    cast-offset
-    be32-requires-2
-    cast-len
-    be32-requires-3
     returns-2
-    returns-3
-    sub-if4
-    returns-4
-    add-if5
-    returns-5
-    sub-name-length
-    part-name-length-start
-    part-name-length-end
-    name-length-requires
-    returns-6
-    returns-7)
+    returns-3)

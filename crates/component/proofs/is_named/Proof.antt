@@ -44,8 +44,8 @@ returns-3 c =
     let a = start (q .before) .args in
     (other-field (a .s .now) (a .name .now) (sym (compared q) ∙ not-true _ (c .if3 .taken)), (refl, refl))
 
-judge-requires : tie.Need-judge-requires
-judge-requires c κs = search needs
+numbers-requires : tie.Need-numbers-requires
+numbers-requires c κs = search needs
 
 enum-known-j : tie.Need-enum-known-j
 enum-known-j c = search needs
@@ -54,7 +54,7 @@ enum-told : tie.Need-enum-told
 enum-told c = search needs
 
 -- the field begins with the name
-abbrev field : tie.After-judge → tie.Else3
+abbrev field : tie.After-numbers → tie.Else3
 field c = c .before
 
 returns-4 : tie.Need-returns-4
@@ -63,13 +63,13 @@ returns-4 c =
     let q = field j in
     let a = start (q .before .before) .args in
     let begins = sym (compared (q .before)) ∙ not-false _ (q .if3 .left) in
-    (as-long (a .s .now) (a .name .now) begins _ (sym (j .judge .ensures .0) ∙ c .before .before .j .given .1), (refl, refl))
+    (as-long (a .s .now) (a .name .now) begins _ (sym (j .numbers .ensures .0) ∙ c .before .before .j .given .1), (refl, refl))
 
 returns-5 : tie.Need-returns-5
 returns-5 c =
     let j = c .before .before in
     let a = start (field j .before .before) .args in
-    (ill-named (a .s .now) (a .name .now) (sym (j .judge .ensures .0) ∙ c .enum-told .given .1), (refl, refl))
+    (ill-named (a .s .now) (a .name .now) (sym (j .numbers .ensures .0) ∙ c .enum-told .given .1), (refl, refl))
 
 pub is-named-spec : {M : Type 1} → statement M
 is-named-spec =
@@ -82,7 +82,7 @@ is-named-spec =
     part-requires
     equal-by-words-requires
     returns-3
-    judge-requires
+    numbers-requires
     enum-known-j
     enum-told
     returns-4

@@ -1,15 +1,14 @@
 use mathlib.Core.Bool.{Bool, true, false}
-use lib.Dec.{ltb, eqb}
-use borrow.Author.Tests.{eqb-true, eqb-false}
-use Prim.Native.Nat.{_<_, _%_}
-use mathlib.Core.Path.{_≡_, refl, sym, _∙_}
+use lib.Dec.{ltb}
+use Prim.Native.Nat.{ℕ, _+_, _≤_, _<_}
+use mathlib.Core.Path.{_≡_, sym, _∙_}
 use native.Mathlib.Omega.{arith}
 use lib.ListN.{length}
 use borrow.Author.Tests.{ltb-true, ltb-false}
-use Rattle.walk.specs.Walk.{nextMagic}
+use Rattle.walk.specs.Walk.{carries, nextMagic, Place}
 use Rattle.decide.specs.Code.{lead}
-use Rattle.edit.specs.Edit.{offsetFor, buries, spanBytes}
-use Rattle.decide.proofs.Burying.{buries-none, buries-name, buries-content, buries-spelt, buries-not}
+use Rattle.edit.specs.Edit.{offsetFor, buries, headerFor, spanBytes}
+use Rattle.decide.proofs.Burying.{buries-none, buries-name, buries-content, buries-head, header-clear, none-found, buries-not}
 use borrow.Author.Needs.{needs}
 use Rattle.decide.proofs.buries.Statement.{statement}
 use Rattle.decide.proofs.buries.Tie as tie
@@ -27,14 +26,14 @@ said : (c : tie.After-hides2) → let a = start (c .before .before .before) .arg
 said c = rw (← c .before .offset-for .ensures .0) (c .hides2 .ensures)
 
 quiet : (c : tie.Else3) → let a = start (c .before .before .before .before) .args in
-    (8 % a .align ≡ 0 → length (a .content .now) % 4294967296 ≡ 0x4C415243 → a .kind % 4294967296 ≡ 0x48495645 → ⊥)
-    → false ≡ buries (a .align) (spanBytes (a .name .now) (a .kind) (a .content .now))
+    ((q : ℕ) → Place (a .align) q → 0 < q → q ≤ 12 → carries (spanBytes (a .name .now) (a .kind) (a .content .now)) q ≡ false)
+    → buries (a .align) (spanBytes (a .name .now) (a .kind) (a .content .now)) ≡ false
 quiet c h =
     let u = c .before in
     let v = u .before .before .before in
     let a = start v .args in
-    sym (buries-not (a .name .now) (a .kind) (a .content .now) (a .align) (pos v) (start v .pre)
-    (ltb-false _ _ (sym (v .hides .ensures) ∙ u .before .before .if2 .left)) (ltb-false _ _ (sym (said u) ∙ c .if3 .left)) h)
+    buries-not (a .name .now) (a .kind) (a .content .now) (a .align) (pos v) (start v .pre)
+    (ltb-false _ _ (sym (v .hides .ensures) ∙ u .before .before .if2 .left)) (ltb-false _ _ (sym (said u) ∙ c .if3 .left)) h
 
 returns : tie.Need-returns
 returns c =
@@ -61,30 +60,31 @@ returns-3 c =
     let a = start v .args in
     sym (buries-content (a .name .now) (a .kind) (a .content .now) (a .align) (pos v) (ltb-true _ _ (sym (said (c .before)) ∙ c .if3 .taken)))
 
-rem-if4 : tie.Need-rem-if4
-rem-if4 c = search needs
-
 returns-4 : tie.Need-returns-4
-returns-4 c = quiet (c .before) (λ z l k. c .if4 .taken z)
+returns-4 c =
+    let d = c .before in
+    let v = d .before .before .before .before in
+    let a = start v .args in
+    sym (quiet d (λ q pl lo hi. header-clear (a .name .now) (a .kind) (a .content .now) (a .align) (pos v) (c .if4 .taken) (start v .pre) q pl lo (omega arith)))
 
-returns-5 : tie.Need-returns-5
-returns-5 c = quiet (c .before .before) (λ z l k. c .if5 .taken l)
+heads-requires : tie.Need-heads-requires
+heads-requires c κs = search needs
 
-spelt : (c : tie.Else5) → let a = start (c .before .before .before .before .before .before) .args in (b : Bool) → eqb (a .kind) 0x48495645 ≡ b
+by : (c : tie.After-heads) → let a = start (c .before .before .before .before .before .before) .args in (b : Bool)
+    → ltb (nextMagic (headerFor (a .name .now) (a .kind) (a .content .now)) (a .align) (0 + a .align) 24) 24 ≡ b
     → b ≡ buries (a .align) (spanBytes (a .name .now) (a .kind) (a .content .now))
-spelt c true e =
+by c true e =
+    let v = c .before .before .before .before .before .before in
+    let a = start v .args in
+    sym (buries-head (a .name .now) (a .kind) (a .content .now) (a .align) (pos v) (ltb-true _ _ e))
+by c false e =
     let d = c .before .before in
     let v = d .before .before .before .before in
     let a = start v .args in
-    let k : a .kind ≡ 0x48495645 = eqb-true _ _ e in
-    sym (buries-spelt (a .name .now) (a .kind) (a .content .now) (a .align) (pos v) (c .before .if4 .left) (c .if5 .left) (omega arith))
-spelt c false e =
-    let d = c .before .before in
-    let a = start (d .before .before .before .before) .args in
-    quiet d (λ z l k. eqb-false (a .kind) 0x48495645 e (omega (arith, k)))
+    sym (quiet d (none-found (a .name .now) (a .kind) (a .content .now) (a .align) (pos v) (ltb-false _ _ e)))
 
-returns-6 : tie.Need-returns-6
-returns-6 c = spelt c _ refl
+returns-5 : tie.Need-returns-5
+returns-5 c = by c _ (sym (c .heads .ensures))
 
 pub buries-spec : {M : Type 1} → statement M
 buries-spec =
@@ -96,7 +96,6 @@ buries-spec =
     offset-for-requires
     hides-requires-2
     returns-3
-    rem-if4
     returns-4
-    returns-5
-    returns-6)
+    heads-requires
+    returns-5)

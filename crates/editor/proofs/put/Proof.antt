@@ -1,11 +1,12 @@
-use Prim.Native.Nat.{ℕ, _+_, _-_, _≤_, _<_}
+use Prim.Native.Nat.{ℕ, _+_, _-_, _<_}
 use mathlib.Core.Path.{_≡_, refl, _∙_}
 use native.Mathlib.Omega.{arith}
 use lib.ListN.{length, replicate, length-replicate}
-use Rattle.number.proofs.Splice.{first, whole}
-use Rattle.edit.specs.Edit.{fieldSize, offsetFor, headerBytes}
-use Rattle.edit.proofs.Written.{field-most, field-room, length-header, length-span}
-use Rattle.editor.proofs.Writing.{more, span-parts}
+use Rattle.number.proofs.Splice.{whole}
+use Rattle.edit.specs.Edit.{fieldSize, offsetFor, headerBytes, sumFor}
+use Rattle.edit.proofs.Written.{field-room, length-header, length-span}
+use Rattle.edit_header.proofs.Headers.{begun, more}
+use Rattle.editor.proofs.Writing.{span-parts}
 use borrow.Author.Needs.{needs}
 use Rattle.editor.proofs.put.Statement.{statement}
 use Rattle.editor.proofs.put.Tie as tie
@@ -19,36 +20,33 @@ offset-for-requires c κs = search needs
 add-end : tie.Need-add-end
 add-end c = search needs
 
-cast-put-header : tie.Need-cast-put-header
-cast-put-header c = search needs
-
 -- the offset, and its bounds
 abbrev start : tie.After-offset-for → tie.Start
 start c = c .before .before .before .before
 
-most : (c : tie.After-offset-for) → c .offset-for .result ≤ 280
-most c = omega (arith, c .offset-for .ensures .0, field-most (length (start c .args .name .now)) (start c .pre .0))
-
 room : (c : tie.After-offset-for) → 24 + length (start c .args .name .now) < c .offset-for .result
 room c = omega (arith, c .offset-for .ensures .0, field-room (length (start c .args .name .now)))
 
-cast-put-header-2 : tie.Need-cast-put-header-2
-cast-put-header-2 c = omega (arith, most (c .before))
+header-requires : tie.Need-header-requires
+header-requires c κs = search needs
 
-put-header-requires : tie.Need-put-header-requires
-put-header-requires c κs = search needs
+slice-aggregate-copy : tie.Need-slice-aggregate-copy
+slice-aggregate-copy c = search needs
 
 copy-requires : tie.Need-copy-requires
 copy-requires c κs = search needs
 
+copy-requires-2 : tie.Need-copy-requires-2
+copy-requires-2 c κs = search needs
+
 sub-fill : tie.Need-sub-fill
-sub-fill c = omega (arith, room (c .before .before .before .before .before .before .before .before .before))
+sub-fill c = omega (arith, room (c .before .before .before .before .before .before .before .before .before .before .before))
 
 fill-requires : tie.Need-fill-requires
 fill-requires c κs = search needs
 
-copy-requires-2 : tie.Need-copy-requires-2
-copy-requires-2 c κs = search needs
+copy-requires-3 : tie.Need-copy-requires-3
+copy-requires-3 c κs = search needs
 
 sub-fill-2 : tie.Need-sub-fill-2
 sub-fill-2 c = search needs
@@ -66,7 +64,8 @@ returns c =
     let c2 = c3 .before .before .before .before in
     let c1 = c2 .before .before .before .before in
     let c0 = c1 .before .before .before .before in
-    let f = c0 .before .before in
+    let h = c0 .before .before .before in
+    let f = h .before in
     let st = start f in
     let s = st .args in
     let pre = st .pre in
@@ -76,15 +75,16 @@ returns c =
     let d = length (s .slot .now) in
     let o = offsetFor (s .name .now) in
     let z = fieldSize n - n in
-    let lh = length-header k (s .kind) o in
+    let u = sumFor (s .name .now) (s .kind) (s .content .now) in
+    let lh = length-header k (s .kind) u o in
     let lz = length-replicate {A = ℕ} z 0 in
     let lf = length-replicate {A = ℕ} (d - (o + k)) 255 in
     let fr = field-room n in
-    let w0 = first (s .slot .now) 0 (headerBytes k (s .kind) o) 24 (rw q at (c0 .put-header .ensures)) (omega arith) (omega arith) in
-    let w1 = more 24 (s .name .now) (24 + n) w0 (c1 .copy .ensures .1 .0) refl refl (omega arith) in
+    let w0 = begun (s .slot .now) (headerBytes k (s .kind) u o) 24 (rw (h .header .ensures .0) at (c0 .copy .ensures .1 .0)) lh (omega arith) in
+    let w1 = more 24 (s .name .now) (24 + n) w0 (c1 .copy2 .ensures .1 .0) refl refl (omega arith) in
     let zq : o - (24 + n) ≡ z = omega (arith, fr) in
     let w2 = more (24 + n) (replicate z 0) o w1 (rw (q, zq) at (c2 .fill .ensures .1)) refl (omega arith) (omega arith) in
-    let w3 = more _ (s .content .now) (o + k) w2 (c3 .copy2 .ensures .1 .0) (omega (arith, q)) (omega (arith, q)) (omega arith) in
+    let w3 = more _ (s .content .now) (o + k) w2 (c3 .copy3 .ensures .1 .0) (omega (arith, q)) (omega (arith, q)) (omega arith) in
     let w4 = more (o + k) (replicate (d - (o + k)) 255) d w3 (rw q at (c4 .fill2 .ensures .1)) refl (omega arith) (omega arith) in
     let l = length-span (s .name .now) (s .kind) (s .content .now) in
     whole w4 refl ∙ span-parts (s .name .now) (s .kind) (s .content .now) (replicate (d - (o + k)) 255) ∙ rw l refl
@@ -96,13 +96,13 @@ put-spec =
     add-named
     offset-for-requires
     add-end
-    cast-put-header
-    cast-put-header-2
-    put-header-requires
+    header-requires
+    slice-aggregate-copy
     copy-requires
+    copy-requires-2
     sub-fill
     fill-requires
-    copy-requires-2
+    copy-requires-3
     sub-fill-2
     fill-requires-2
     same-length

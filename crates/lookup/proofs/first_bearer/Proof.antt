@@ -1,8 +1,9 @@
 use Prim.Native.Nat.{_-_}
 use mathlib.Core.Path.{_≡_, refl, sym, ap, _∙_}
+use mathlib.Core.Bool.{false}
 use native.Mathlib.Omega.{arith}
 use lib.ListN.{length}
-use Rattle.walk.specs.Walk.{pickOf, told, step as stepOf}
+use Rattle.walk.specs.Walk.{plain, told, step as stepOf}
 use Rattle.lookup.specs.Lookup.{bearersFrom, firstOf}
 use Rattle.walk.specs.declared.Step.the-variants.{Took}
 use Rattle.walk.proofs.Stepping.{step-past}
@@ -13,10 +14,10 @@ use Rattle.lookup.proofs.first_bearer.Statement.{statement}
 use Rattle.lookup.proofs.first_bearer.Tie as tie
 
 abbrev Inv-loop : tie.InvT-loop
-Inv-loop guarded r align from name n₀ n = bearersFrom (pickOf guarded r align) r align name from ≡ bearersFrom (pickOf guarded r align) r align name n
+Inv-loop r align name n₀ n = bearersFrom (plain r) r align name 0 ≡ bearersFrom (plain r) r align name n
 
 abbrev μ-loop : tie.MeasureT-loop
-μ-loop guarded r align from name n₀ n = length r - n
+μ-loop r align name n₀ n = length r - n
 
 loop-holds : tie.Need-loop-holds Inv-loop μ-loop
 loop-holds c = refl
@@ -35,7 +36,7 @@ start c = c .before .before .before
 said : (c : tie.After-s Inv-loop μ-loop) →
     let l = loop (c .before .before) in
     let a = start l .args in
-    told (a .r .now) (a .align) (stepOf (pickOf (a .guarded) (a .r .now) (a .align)) (a .r .now) (a .align) (l .loop .n)) ≡ Took (c .s .given .0 .0)
+    told (a .r .now) (a .align) (stepOf (plain (a .r .now)) (a .r .now) (a .align) (l .loop .n)) ≡ Took (c .s .given .0 .0)
 said c = sym (c .before .before .walk-step .ensures .0) ∙ c .s .given .1
 
 enum-told : tie.Need-enum-told Inv-loop μ-loop
@@ -48,7 +49,7 @@ returns c =
     let a = start l .args in
     let r = a .r .now in
     let none = told-none r (a .align) _ (sym (w .walk-step .ensures .0) ∙ c .enum-told .given .1) in
-    sym (ap (λ b. told r (a .align) (firstOf b)) (l .loop .inv ∙ bearers-end (a .guarded) r (a .align) (l .loop .n) (a .name .now) none))
+    sym (ap (λ b. told r (a .align) (firstOf b)) (l .loop .inv ∙ bearers-end false r (a .align) (l .loop .n) (a .name .now) none))
 
 enum-known-s : tie.Need-enum-known-s Inv-loop μ-loop
 enum-known-s c = search needs
@@ -62,7 +63,7 @@ returns-2 c =
     let s = b .before .before in
     let l = loop (s .before .before) in
     let a = start l .args in
-    bearer-here (a .guarded) (a .r .now) (a .align) (l .loop .n) (a .name .now) _ (said s) (sym (b .bears .ensures) ∙ c .if1 .taken)
+    bearer-here false (a .r .now) (a .align) (l .loop .n) (a .name .now) _ (said s) (sym (b .bears .ensures) ∙ c .if1 .taken)
     ∙ sym (ap (λ b. told (a .r .now) (a .align) (firstOf b)) (l .loop .inv))
 
 loop-less : tie.Need-loop-less Inv-loop μ-loop
@@ -70,7 +71,7 @@ loop-less c =
     let s = c .before .before .before in
     let l = loop (s .before .before) in
     let a = start l .args in
-    omega (arith, s .before .before .before .loop-test .taken, took-inside (a .guarded) (a .r .now) (a .align) (l .loop .n) _ (said s) .1)
+    omega (arith, s .before .before .before .loop-test .taken, took-inside false (a .r .now) (a .align) (l .loop .n) _ (said s) .1)
 
 loop-again : tie.Need-loop-again Inv-loop μ-loop
 loop-again c =
@@ -78,15 +79,15 @@ loop-again c =
     let s = b .before .before in
     let l = loop (s .before .before) in
     let a = start l .args in
-    l .loop .inv ∙ bearer-on (a .guarded) (a .r .now) (a .align) (l .loop .n) (a .name .now) _ (said s) (sym (b .bears .ensures) ∙ c .if1 .left)
+    l .loop .inv ∙ bearer-on false (a .r .now) (a .align) (l .loop .n) (a .name .now) _ (said s) (sym (b .bears .ensures) ∙ c .if1 .left)
 
 returns-3 : tie.Need-returns-3 Inv-loop μ-loop
 returns-3 c =
     let l = c .before in
     let a = start l .args in
     let r = a .r .now in
-    let none = step-past (pickOf (a .guarded) r (a .align)) r (a .align) (l .loop .n) (c .loop-test .left) in
-    sym (ap (λ b. told r (a .align) (firstOf b)) (l .loop .inv ∙ bearers-end (a .guarded) r (a .align) (l .loop .n) (a .name .now) none))
+    let none = step-past (plain r) r (a .align) (l .loop .n) (c .loop-test .left) in
+    sym (ap (λ b. told r (a .align) (firstOf b)) (l .loop .inv ∙ bearers-end false r (a .align) (l .loop .n) (a .name .now) none))
 
 pub first-bearer-spec : {M : Type 1} → statement M
 first-bearer-spec =

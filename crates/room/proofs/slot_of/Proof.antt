@@ -4,7 +4,7 @@ use mathlib.Core.Path.{_≡_, refl, sym, ap, _∙_}
 use mathlib.Core.List.{List}
 use lib.ListN.{length, drop, getD}
 use Rattle.number.specs.Number.{be}
-use Rattle.component.specs.Component.{judge, bearsName}
+use Rattle.component.specs.Component.{numbers, bearsName}
 use Rattle.checker.specs.Directory.{named}
 use Rattle.room.specs.Room.{slotAmong}
 use Rattle.room.proofs.Finding.{slot-here, slot-on, slot-end}
@@ -37,7 +37,7 @@ borne : (c : tie.After-is-named Inv-loop μ-loop) → let l = loop (c .before) i
 unfolding named
 borne c =
     let a = start (loop (c .before)) .args in
-    c .is-named .ensures .0 ∙ ap (λ (s : List ℕ). bearsName (a .name .now) (judge s)) (c .before .rest .ensures .0)
+    c .is-named .ensures .0 ∙ ap (λ (s : List ℕ). bearsName (a .name .now) (numbers s)) (c .before .rest .ensures .0)
 
 mul-p : tie.Need-mul-p Inv-loop μ-loop
 mul-p c = search needs

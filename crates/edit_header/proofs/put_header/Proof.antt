@@ -4,10 +4,10 @@ use Rattle.number.specs.Bytes.{splice}
 use Rattle.number.specs.Number.{beBytes}
 use Rattle.number.proofs.Digits.{length-beBytes}
 use Rattle.component.specs.Component.{magic}
-use Rattle.editor.proofs.Writing.{begun, more, header-parts}
+use Rattle.edit_header.proofs.Headers.{begun, more, header-parts}
 use borrow.Author.Needs.{needs}
-use Rattle.editor.proofs.put_header.Statement.{statement}
-use Rattle.editor.proofs.put_header.Tie as tie
+use Rattle.edit_header.proofs.put_header.Statement.{statement}
+use Rattle.edit_header.proofs.put_header.Tie as tie
 
 slice-aggregate-copy : tie.Need-slice-aggregate-copy
 slice-aggregate-copy c = search needs
@@ -44,9 +44,9 @@ returns c =
     let w0 = begun (a .slot .now) magic 8 (c0 .copy .ensures .1 .0) refl (omega arith) in
     let w1 = more 8 (beBytes 4 (a .len)) 12 w0 (c1 .put-be32 .ensures .1) refl (omega (arith, length-beBytes 4 (a .len))) (omega arith) in
     let w2 = more 12 (beBytes 4 (a .kind)) 16 w1 (c2 .put-be322 .ensures .1) refl (omega (arith, length-beBytes 4 (a .kind))) (omega arith) in
-    let w3 = more 16 (beBytes 4 0) 20 w2 (c3 .put-be323 .ensures .1) refl (omega (arith, length-beBytes 4 0)) (omega arith) in
+    let w3 = more 16 (beBytes 4 (a .sum)) 20 w2 (c3 .put-be323 .ensures .1) refl (omega (arith, length-beBytes 4 (a .sum))) (omega arith) in
     let w4 = more 20 (beBytes 4 (a .offset)) 24 w3 (c4 .put-be324 .ensures .1) refl (omega (arith, length-beBytes 4 (a .offset))) (omega arith) in
-    w4 .bytes ∙ ap (splice (a .slot .now) 0) (header-parts (a .len) (a .kind) (a .offset))
+    w4 .bytes ∙ ap (splice (a .slot .now) 0) (header-parts (a .len) (a .kind) (a .sum) (a .offset))
 
 pub put-header-spec : {M : Type 1} → statement M
 put-header-spec =
