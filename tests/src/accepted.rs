@@ -5,6 +5,7 @@ use crate::image::{put, Frame, Raw};
 use crate::master;
 use crate::rng::Rng;
 use crate::strict;
+use crate::sums::{good, magics, state_each, Stated};
 
 /// Images tried for an accepted one. A few are enough, unless the reference has a fault; then the run still ends.
 const TRIES: usize = 1_000;
@@ -26,7 +27,7 @@ pub fn accepted(rng: &mut Rng, most: usize) -> Option<Vec<u8>> {
     None
 }
 
-/// Right components with different names in a region, packed or with gaps.
+/// Right components with different names in a region, packed or with gaps. They state their sums, or none, or some of them do.
 fn filled(rng: &mut Rng, frame: &Frame) -> Vec<u8> {
     let align = frame.align as usize;
     let end = frame.end();
@@ -70,17 +71,22 @@ fn filled(rng: &mut Rng, frame: &Frame) -> Vec<u8> {
         put(&mut image, end as i64 - 4, b"LARCHIVE");
     }
     frame.stamp(&mut image);
+    let places = magics(&image, frame.region());
+    let choose = *rng.pick::<fn(&mut Rng) -> Stated>(&[good, |_| Stated::Right, |_| Stated::None]);
+    state_each(rng, &mut image, &places, choose);
     image
 }
 
-/// So many small components side by side at align 16, with one free place before and after.
+/// So many small components side by side at align 16, with one free place before and after. Every other one states its sum.
 /// `twice` gives the last one the first one's name.
 pub fn many(count: usize, twice: bool) -> Vec<u8> {
     let end = 48 * (count + 2) + 5;
     let mut image = vec![0xFF; end + 50];
     for index in 0..count {
         let name = if twice && index + 1 == count { "c0".to_string() } else { format!("c{index}") };
-        put(&mut image, 48 * (index as i64 + 1), &Raw::new(name.as_bytes(), index as u32, &[]).bytes());
+        let raw = Raw::new(name.as_bytes(), index as u32, &[]);
+        let raw = if index % 2 == 1 { raw.summed() } else { raw };
+        put(&mut image, 48 * (index as i64 + 1), &raw.bytes());
     }
     Frame::new(end + 50, 36, 50, 16, 0).over(image)
 }
@@ -88,6 +94,7 @@ pub fn many(count: usize, twice: bool) -> Vec<u8> {
 /// The same with one more, `new` of type 7 and without content, in the place before them: what an add leaves.
 pub fn many_and_new(count: usize) -> Vec<u8> {
     let mut image = many(count, false);
-    put(&mut image, 0, &Raw::new(b"new", 7, &[]).bytes());
+    // LARCHIVE 590, the type 7, the offset 40, the name 330.
+    put(&mut image, 0, &Raw { checksum: 967, ..Raw::new(b"new", 7, &[]) }.bytes());
     image
 }

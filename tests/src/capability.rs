@@ -9,7 +9,9 @@ pub struct Batch {
     pub after: Option<After>,
 }
 
-pub type After = Box<dyn Fn(&[String]) -> Result<(), String>>;
+/// Such a check tells what it has seen, as outcomes of a call to count.
+pub type After = Box<dyn Fn(&[String]) -> Result<Vec<Seen>, String>>;
+pub type Seen = (&'static str, &'static str);
 
 impl Batch {
     pub fn plain(cases: Vec<Case>) -> Batch {
@@ -17,7 +19,7 @@ impl Batch {
     }
 }
 
-/// A case whose answer stands in document 01, or follows from request 6 of document 02, written out.
+/// A case whose answer stands in document 01, or follows from request 5 or 6 of document 02, written out.
 pub struct Literal {
     pub case: Case,
     pub answer: String,

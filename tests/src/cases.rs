@@ -1,12 +1,14 @@
 //! Generators of images, with the numbers to step from and the names to look up that are of interest on each.
 //! Document 01, "Master header" and "Components and the two walks": both sides of every boundary, and random ones.
+//! Headers at a boundary state no sum or the right one, so that the boundary decides and not the sum.
 
 use std::sync::Arc;
 
-use crate::image::{background, put, Frame, Raw};
+use crate::image::{background, lay, put, Frame, Raw};
 use crate::protocol::Case;
 use crate::rng::Rng;
-use crate::walk::LARCHIVE;
+use crate::sums::{self, good, mostly_good, state, state_each, Stated, Wrong, WRONG};
+use crate::walk::{self, LARCHIVE};
 
 /// An image and what to ask of it.
 pub struct Scene {
@@ -40,6 +42,15 @@ pub fn long_name(length: usize) -> Vec<u8> {
     (0..length).map(|at| 0x21 + (at * 7 % 94) as u8).collect()
 }
 
+/// A component as it is, without a sum, or with its right one.
+pub fn summed_or_not(rng: &mut Rng, raw: Raw) -> Raw {
+    if rng.one_in(2) {
+        raw.summed()
+    } else {
+        raw
+    }
+}
+
 /// Every scene that is not random but for the bytes that do not matter.
 pub fn fixed(rng: &mut Rng) -> Vec<Scene> {
     let mut scenes = Vec::new();
@@ -55,6 +66,11 @@ pub fn fixed(rng: &mut Rng) -> Vec<Scene> {
     neighbours(rng, &mut scenes);
     names(rng, &mut scenes);
     steps(rng, &mut scenes);
+    checksums(rng, &mut scenes);
+    edge_sums(rng, &mut scenes);
+    widest_sum(rng, &mut scenes);
+    hiding(rng, &mut scenes);
+    twins(rng, &mut scenes);
     scenes
 }
 
@@ -187,6 +203,7 @@ fn master_fields(rng: &mut Rng, scenes: &mut Vec<Scene>) {
             let raw = Raw::new(b"a", rng.number32(), &[7; 5]);
             put(&mut image, offset as i64, &raw.bytes());
             frame.stamp(&mut image);
+            state_each(rng, &mut image, &[offset], good);
             scenes.push(Scene::new(image, &[frame.offset as u64], &[b"a"], "master field"));
         }
     }
@@ -207,6 +224,7 @@ fn small_regions(rng: &mut Rng, scenes: &mut Vec<Scene>) {
                     let raw = Raw::new(b"a", 0x10, &[]);
                     put(&mut image, offset as i64, &raw.bytes());
                     Frame::new(length, from_end, from_end, align, offset).stamp(&mut image);
+                    state_each(rng, &mut image, &[offset], good);
                     let numbers = [offset as u64, end as u64, end as u64 + 1];
                     scenes.push(Scene::new(image, &numbers, &[b"a"], "small region"));
                 }
@@ -260,6 +278,8 @@ impl Stand {
         let mut frame = self.frame.clone();
         frame.pads = [rng.number32(), rng.number32()];
         frame.stamp(&mut image);
+        let others = self.others.iter().map(|(place, _)| *place);
+        state_each(rng, &mut image, &others.chain([self.place]).collect::<Vec<usize>>(), good);
         let name: Vec<u8> = raw.field.iter().take_while(|byte| **byte != 0).copied().take(300).collect();
         Scene::new(image, &[self.place as u64], &[&name], note)
     }
@@ -321,7 +341,6 @@ fn offsets(rng: &mut Rng, scenes: &mut Vec<Scene>) {
                 let mut raw = Raw::new(&long_name(name), rng.number32(), &[9; 10]);
                 raw.field.resize(size, 0);
                 raw.offset = offset;
-                raw.checksum = rng.number32();
                 scenes.push(stand.scene(rng, &raw, "component offset"));
             }
         }
@@ -401,6 +420,7 @@ fn tails(rng: &mut Rng, scenes: &mut Vec<Scene>) {
                 put(&mut image, 0, &Raw::new(b"first", 5, b"").bytes());
                 put(&mut image, place as i64, &Raw::new(b"last", 6, &vec![3; len as usize]).bytes());
                 Frame::new(length, 36, 200, align, 0).stamp(&mut image);
+                state_each(rng, &mut image, &[0, place], good);
                 let numbers = [place as u64, end as u64];
                 scenes.push(Scene::new(image, &numbers, &[b"last"], "tail"));
             }
@@ -420,7 +440,8 @@ fn magics(rng: &mut Rng, scenes: &mut Vec<Scene>) {
         }
         for shift in -9i64..=9 {
             let mut image = vec![0xFF; stand.frame.length];
-            put(&mut image, stand.place as i64 + shift, &Raw::new(b"name", 0x10, b"content").bytes());
+            let raw = summed_or_not(rng, Raw::new(b"name", 0x10, b"content"));
+            put(&mut image, stand.place as i64 + shift, &raw.bytes());
             stand.frame.stamp(&mut image);
             let numbers = [stand.frame.offset as u64, stand.place as u64];
             scenes.push(Scene::new(image, &numbers, &[b"name"], "magic off the alignment"));
@@ -452,6 +473,7 @@ fn neighbours(rng: &mut Rng, scenes: &mut Vec<Scene>) {
                 let bytes = raw.bytes();
                 put(&mut image, offset as i64, &bytes[..bytes.len().min(second - offset)]);
                 Frame::new(length, 36, 36, align, offset).stamp(&mut image);
+                state_each(rng, &mut image, &[offset, second, later], good);
                 let numbers = [offset as u64, second as u64, (second + align) as u64, later as u64];
                 scenes.push(Scene::new(image, &numbers, &[b"first", b"second", b"third"], "neighbours"));
             }
@@ -474,7 +496,7 @@ fn names(rng: &mut Rng, scenes: &mut Vec<Scene>) {
             let mut at = 2 * align;
             for (index, name) in family.iter().enumerate() {
                 let content = rng.bytes(index * 3);
-                let raw = Raw::new(name, index as u32, &content);
+                let raw = summed_or_not(rng, Raw::new(name, index as u32, &content));
                 put(&mut image, at as i64, &raw.bytes());
                 at = (at + raw.bytes().len() + align - 1) / align * align;
             }
@@ -526,7 +548,8 @@ fn steps(rng: &mut Rng, scenes: &mut Vec<Scene>) {
         let mut image = rng.bytes(length);
         for (index, place) in [offset, offset + 2 * align.max(64), offset + 3 * align.max(64)].into_iter().enumerate() {
             if place + 48 <= end {
-                put(&mut image, place as i64, &Raw::new(b"step", index as u32, &[0; 8]).bytes());
+                let raw = summed_or_not(rng, Raw::new(b"step", index as u32, &[0; 8]));
+                put(&mut image, place as i64, &raw.bytes());
             }
         }
         Frame::new(length, 64, 64, align, offset).stamp(&mut image);
@@ -539,14 +562,135 @@ fn steps(rng: &mut Rng, scenes: &mut Vec<Scene>) {
     }
 }
 
+/// No sum, the right one and each wrong one.
+pub fn every_stated() -> Vec<Stated> {
+    let wrong = WRONG.iter().map(|(way, _)| Stated::Wrong(*way));
+    [Stated::None, Stated::Right].into_iter().chain(wrong).collect()
+}
+
+/// Each of them over contents and names of every kind, between two other components.
+fn checksums(rng: &mut Rng, scenes: &mut Vec<Scene>) {
+    let random = [&rng.bytes(76)[..], b"!"].concat();
+    let contents: [&[u8]; 9] = [b"", b"\0", b"\xFF", b"content", &[0; 40], &random, &[0xFF; 300], &[0xFF; 1000], &[0x33; 20]];
+    for (index, content) in contents.into_iter().enumerate() {
+        for name in [1, 15, 16, 255].map(long_name) {
+            let mut raw = Raw::new(&name, random_kind(rng), content);
+            if index == 8 {
+                // A multiple of 255 has fields that are right with their own bytes.
+                raw.content[19] = 0;
+                raw.content[19] = 255 - (walk::sum(&raw.bytes()) % 255) as u8;
+            }
+            for stated in every_stated() {
+                scenes.extend(summed_scene(rng, &raw, stated));
+            }
+        }
+    }
+}
+
+/// Each of them for sums at the edges of 16 and 17 bits.
+fn edge_sums(rng: &mut Rng, scenes: &mut Vec<Scene>) {
+    for sum in [0xFFFF, 0x1_0000, 0x1_0001, 0x1_FFFF, 0x2_0000] {
+        let mut raw = Raw::new(b"edge", random_kind(rng), &[0; 520]);
+        let mut left = u32::saturating_sub(sum, walk::sum(&raw.bytes()));
+        for byte in &mut raw.content {
+            *byte = left.min(255) as u8;
+            left -= *byte as u32;
+        }
+        for stated in every_stated() {
+            scenes.extend(summed_scene(rng, &raw, stated));
+        }
+    }
+}
+
+/// A content of 0xFF up to the end of the longest region: its sum is nearly 2^24.
+pub fn widest() -> (Frame, Raw) {
+    let frame = Frame::new(65_536, 36, 36, 64, 64);
+    (frame, Raw::new(b"wide", 0x20, &[0xFF; 65_500 - 64 - 40]))
+}
+
+/// Some of them for that content.
+fn widest_sum(rng: &mut Rng, scenes: &mut Vec<Scene>) {
+    let wrong = [Wrong::OneAbove, Wrong::OneBelow, Wrong::Byte(0), Wrong::Byte(1), Wrong::Short].map(Stated::Wrong);
+    for stated in [Stated::None, Stated::Right].into_iter().chain(wrong) {
+        let (frame, raw) = widest();
+        let mut image = lay(&frame, &[(64, raw)]);
+        state(rng, &mut image, 64, stated);
+        scenes.push(Scene::new(image, &[64], &[b"wide"], "checksum"));
+    }
+}
+
+/// One component that states a sum in this way; none where its sum cannot be wrong so.
+fn summed_scene(rng: &mut Rng, raw: &Raw, stated: Stated) -> Option<Scene> {
+    let align = *rng.pick(&[16, 64, 256]);
+    let offset = align * rng.below(3);
+    let place = (offset + 48).div_ceil(align) * align;
+    let after = (place + raw.bytes().len()).div_ceil(align) * align;
+    let end = after + 48 + rng.below(20);
+    let length = end + 64;
+    let mut image = if rng.one_in(2) { vec![0xFF; length] } else { rng.bytes(length) };
+    put(&mut image, offset as i64, &Raw::new(b"before", 1, b"1234").bytes());
+    put(&mut image, after as i64, &Raw::new(b"after", 2, b"5678").bytes());
+    put(&mut image, place as i64, &raw.bytes());
+    Frame::new(length, 40, 64, align, offset).stamp(&mut image);
+    state_each(rng, &mut image, &[offset, after], good);
+    let name: Vec<u8> = raw.field.iter().take_while(|byte| **byte != 0).copied().collect();
+    let fits = state(rng, &mut image, place, stated);
+    fits.then(|| Scene::new(image, &[offset as u64, place as u64], &[&name, b"after"], "checksum"))
+}
+
+/// Each of them for a component whose span holds another one whole, or up to the region's end; the inner one is at a place or off it.
+fn hiding(rng: &mut Rng, scenes: &mut Vec<Scene>) {
+    for align in [16, 64, 256] {
+        for stated in every_stated() {
+            for (shift, to_end) in [(0, false), (0, true), (8, false)] {
+                let inner = 48usize.div_ceil(align) * align + align * rng.below(2);
+                let size = inner + 48 + rng.range(1, 300);
+                let end = size + if to_end { 0 } else { rng.below(2 * align) };
+                let mut image = if rng.one_in(2) { vec![0xFF; end + 64] } else { rng.bytes(end + 64) };
+                put(&mut image, 0, &Raw::new(b"outer", random_kind(rng), &vec![0x5A; size - 40]).bytes());
+                put(&mut image, (inner + shift) as i64, &Raw::new(b"inner", random_kind(rng), b"inside").bytes());
+                Frame::new(end + 64, 40, 64, align, 0).stamp(&mut image);
+                state_each(rng, &mut image, &[inner + shift], mostly_good);
+                if state(rng, &mut image, 0, stated) {
+                    scenes.push(Scene::new(image, &[0, inner as u64], &[b"outer", b"inner"], "checksum"));
+                }
+            }
+        }
+    }
+}
+
+/// Two components of one name: the sum of the first, of the second, of both or of neither is wrong.
+fn twins(rng: &mut Rng, scenes: &mut Vec<Scene>) {
+    for align in [16, 64, 256] {
+        for (first, second) in [(false, false), (true, false), (false, true), (true, true)] {
+            for fill in [0usize, 9, 300] {
+                let place = (48 + fill).div_ceil(align) * align;
+                let end = place + 60;
+                let mut image = vec![0xFF; end + 64];
+                put(&mut image, 0, &Raw::new(b"twin", 0x10, &vec![0xEE; fill]).bytes());
+                put(&mut image, place as i64, &Raw::new(b"twin", 0x20, b"second").bytes());
+                Frame::new(end + 64, 36, 64, align, 0).stamp(&mut image);
+                for (at, wrong) in [(place, second), (0, first)] {
+                    let stated = if wrong { sums::wrong(rng) } else { good(rng) };
+                    state(rng, &mut image, at, stated);
+                }
+                scenes.push(Scene::new(image, &[0, place as u64], &[b"twin"], "checksum"));
+            }
+        }
+    }
+}
+
 /// A component with the longest name and no content: its span of 280 bytes ends at the region's end, one byte past it or one before it.
 /// It stands at the region's start, or after another component; the region begins at 0 or above. A stage, a payload or another type.
+/// Every other one states its sum.
 pub fn longest() -> Vec<Scene> {
     let mut scenes = Vec::new();
     let mut kinds = [0x10, 0x20, 0xFFFF_FFFF].into_iter().cycle();
+    let mut summed = [false, true].into_iter().cycle();
     for align in [16, 64, 256, 4096] {
         for (offset, others) in [(0, 0), (0, 1), (3 * align, 0), (3 * align, 1)] {
             let raw = Raw::new(&long_name(255), kinds.next().expect("a cycle"), &[]);
+            let raw = if summed.next().expect("a cycle") { raw.summed() } else { raw };
             for size in [279, 280, 281] {
                 let place = offset + others * 48usize.div_ceil(align) * align;
                 let end = place + size;
@@ -669,10 +813,9 @@ pub fn random_content(rng: &mut Rng, length: usize) -> Vec<u8> {
     }
 }
 
-/// A component for a place with so much room after it: any span that fits, often at an edge.
+/// A component for a place with so much room after it: any span that fits, often at an edge. It states no sum yet.
 pub fn random_raw(rng: &mut Rng, room: usize, align: usize) -> Raw {
     let mut raw = Raw::new(&random_name(rng), random_kind(rng), &[]);
-    raw.checksum = rng.number32();
     if rng.one_in(6) {
         let longer = (raw.field.len() + 16 * rng.below(4)).min(256);
         raw = raw.with_field(longer);
@@ -800,6 +943,8 @@ pub fn random(rng: &mut Rng) -> Scene {
     let mut image = background(rng, frame.length);
     let names = fill(rng, &mut image, &frame);
     frame.stamp(&mut image);
+    let places = sums::magics(&image, frame.region());
+    state_each(rng, &mut image, &places, mostly_good);
     let mut note = "random";
     if rng.one_in(3) {
         damage(rng, &mut image);

@@ -7,7 +7,7 @@ use crate::capability::{Batch, Capability};
 use crate::protocol::{lines_of_answer, outcome, Case};
 use crate::run::{run, Words};
 use crate::tally::{clip, Tally};
-use crate::{master, required, walk};
+use crate::{deciding, master, required, walk};
 
 /// Cases in one run of the probe.
 const RUN: usize = 4_000;
@@ -59,8 +59,12 @@ fn kinds(case: &Case, expected: &str) -> Vec<String> {
 
 /// Compares one answer.
 fn compare_one(capability: &Capability, number: usize, case: &Case, expected: &str, got: &str, tally: &mut Tally) {
+    let call = (case.op as char).to_string();
     for kind in kinds(case, expected) {
-        tally.count(&(case.op as char).to_string(), kind);
+        tally.count(&call, kind);
+    }
+    for (call, kind) in deciding::kinds(&call, case, expected, capability.answer) {
+        tally.count(&call, kind);
     }
     if got == expected {
         tally.agreed += 1;
@@ -145,8 +149,9 @@ fn check_after(batches: &[Batch], answers: &[String], tally: &mut Tally) {
     for batch in batches {
         let next = at + batch.cases.len();
         if let (Some(after), true) = (&batch.after, next <= answers.len()) {
-            if let Err(text) = after(&answers[at..next]) {
-                tally.fail(text);
+            match after(&answers[at..next]) {
+                Ok(seen) => seen.into_iter().for_each(|(call, kind)| tally.count(call, kind.to_string())),
+                Err(text) => tally.fail(text),
             }
         }
         at = next;

@@ -1,8 +1,8 @@
-//! Document 01, "Edits": add, replace and remove on accepted images.
+//! Document 01, "Edits": add, replace and remove on accepted images. What is written states its sum, by request 5 of document 02.
 
 use crate::master::{self, Region};
 use crate::strict::{check, slots, MOST};
-use crate::walk::{next_place, Component, LARCHIVE};
+use crate::walk::{next_place, sum, Component, CHECKSUM, LARCHIVE};
 
 /// A refusal's number and place.
 pub type Refusal = (u32, usize);
@@ -18,6 +18,8 @@ pub fn span(name: &[u8], kind: u32, content: &[u8]) -> Vec<u8> {
     bytes.extend(name);
     bytes.resize(24 + field, 0);
     bytes.extend(content);
+    let stated = sum(&bytes);
+    bytes[CHECKSUM].copy_from_slice(&stated.to_be_bytes());
     bytes
 }
 

@@ -3,18 +3,19 @@
 use std::sync::Arc;
 
 use crate::accepted::{accepted, many, many_and_new};
+use crate::bench::{long_stating, LONG_SUM, SUM_12, SUM_13, WRONG_12, WRONG_13, WRONG_LONG};
 use crate::bytes::hex;
 use crate::capability::{Batch, Both, Capability, Literal};
-use crate::cases::{self, long_name, random_content, random_kind, random_name};
+use crate::cases::{self, long_name, random_content, random_kind, random_name, summed_or_not};
 use crate::edit::{self, Refusal};
 use crate::guarded::{raw_region, strict_both, strict_holds};
-use crate::image::{bench_a, image_a, lay, put, Frame, Raw};
+use crate::image::{a_stating, bench_a, image_a, lay, put, Frame, Raw};
 use crate::master::{self, Region};
 use crate::plain::master_both;
 use crate::protocol::{refused, Case};
 use crate::rng::Rng;
-use crate::strict;
 use crate::walk::{self, Component, LARCHIVE};
+use crate::{strict, sums};
 
 pub fn capability() -> Capability {
     Capability { name: "edits", operations: "ard", answer, pairs, bench, both, generated, share: 50 }
@@ -41,7 +42,7 @@ fn answer(case: &Case) -> String {
 }
 
 /// The order's demand 2 on an accepted edit, seen by the reference: the strict check still accepts; the new content is
-/// found under its name, or a removed name nowhere; every other component is as it was.
+/// found under its name with its sum stated, or a removed name nowhere; every other component is as it was.
 fn demanded(case: &Case) -> Result<(), String> {
     let (result, image) = edited(case);
     let Ok(place) = result else {
@@ -53,7 +54,7 @@ fn demanded(case: &Case) -> Result<(), String> {
     let own = strict::guarded_lookup(&image, region, &case.name);
     let good = match (case.op, own) {
         (b'd', own) => own == Err(10),
-        (_, Ok(it)) => it.place == place && image[it.content..it.end] == case.content[..],
+        (_, Ok(it)) => it.place == place && it.checksum != 0 && image[it.content..it.end] == case.content[..],
         (_, Err(_)) => false,
     };
     let others = |list: &[Component], bytes: &[u8]| -> Vec<(Component, Vec<u8>)> {
@@ -154,51 +155,56 @@ fn bench() -> Vec<Literal> {
     let ask = |op: u8, name: &[u8], content: &[u8]| Case::new(op, &a, "bench").named(name).holding(content);
     let refusal = |number: u32| format!("refused\t{number}\t0\t0");
 
-    // Replace cal/12 by 152 bytes fits, 153: 17.
+    // Replace cal/12 by 152 bytes fits, 153: 17. Of its sum 2200 all but the len stays; the new len and 90 for each byte come to it.
     let mut image = image_a();
     put(&mut image, 8, &[0, 0, 0, 152]);
+    put(&mut image, 16, &15_932u32.to_be_bytes());
     put(&mut image, 40, &[0x5A; 152]);
     add(ask(b'r', b"cal/12", &[0x5A; 152]), "done\t0", &image);
     add(ask(b'r', b"cal/12", &[0x5A; 153]), &refusal(17), &a);
     // A shorter one leaves nothing behind.
     let mut image = image_a();
     put(&mut image, 8, &[0, 0, 0, 3]);
+    put(&mut image, 16, &2397u32.to_be_bytes());
     put(&mut image, 40, b"abc");
     put(&mut image, 43, &[0xFF; 149]);
     add(ask(b'r', b"cal/12", b"abc"), "done\t0", &image);
     // Add log of 2776 bytes goes to 256; 2777: 17.
-    let header = |length: u32, kind: u32, offset: u32| -> Vec<u8> {
+    let header = |length: u32, kind: u32, sum: u32, offset: u32| -> Vec<u8> {
         let mut bytes = b"LARCHIVE".to_vec();
-        for number in [length, kind, 0, offset] {
+        for number in [length, kind, sum, offset] {
             bytes.extend(number.to_be_bytes());
         }
         bytes
     };
-    let with = |name: &[u8], field: usize, content: &[u8]| -> Vec<u8> {
+    let with = |name: &[u8], field: usize, content: &[u8], sum: u32| -> Vec<u8> {
         let mut image = image_a();
-        put(&mut image, 256, &header(content.len() as u32, 7, 24 + field as u32));
+        put(&mut image, 256, &header(content.len() as u32, 7, sum, 24 + field as u32));
         put(&mut image, 280, &vec![0; field]);
         put(&mut image, 280, name);
         put(&mut image, 280 + field as i64, content);
         image
     };
-    add(ask(b'a', b"log", &[1; 2776]).numbered(7), "done\t256", &with(b"log", 16, &[1; 2776]));
+    // LARCHIVE 590, len 10 + 216, type 7, offset 40, name 322; and the content, whose sum may be above 2^16.
+    add(ask(b'a', b"log", &[1; 2776]).numbered(7), "done\t256", &with(b"log", 16, &[1; 2776], 3961));
     add(ask(b'a', b"log", &[1; 2777]).numbered(7), &refusal(17), &a);
+    add(ask(b'a', b"log", &[0xFF; 2776]).numbered(7), "done\t256", &with(b"log", 16, &[0xFF; 2776], 709_065));
+    add(ask(b'a', b"log", &[]).numbered(7), "done\t256", &with(b"log", 16, &[], 959));
     // LARCHIVE at content byte 24: 16; at byte 25 accepted.
     for (at, good) in [(23, true), (24, false), (25, true)] {
         let mut content = vec![0; 60];
         content[at..at + 8].copy_from_slice(LARCHIVE);
         let case = ask(b'a', b"log", &content).numbered(7);
         if good {
-            add(case, "done\t256", &with(b"log", 16, &content));
+            add(case, "done\t256", &with(b"log", 16, &content, 1609));
         } else {
             add(case, &refusal(16), &a);
         }
     }
     // Name of 15 bytes: offset 40; of 16: offset 56; of 255: 280.
-    for (length, field) in [(15, 16), (16, 32), (255, 256)] {
+    for (length, field, sum) in [(15, 16, 2812), (16, 32, 2938), (255, 256, 29_197)] {
         let name = vec![b'n'; length];
-        add(ask(b'a', &name, b"table").numbered(7), "done\t256", &with(&name, field, b"table"));
+        add(ask(b'a', &name, b"table").numbered(7), "done\t256", &with(&name, field, b"table", sum));
     }
     // Align 16, new name xxxxxxxxLARCHIVE: 16.
     let (mut frame, components) = bench_a();
@@ -217,6 +223,7 @@ fn bench() -> Vec<Literal> {
         let case = Case::new(op, &long, "bench").named(b"cal/13").holding(b"x");
         add(case, "refused\t12\t192\t0", &long);
     }
+    sums_of_a(&mut add);
     // An add to 1,023 components is done, and one to 1,024 refused by 13; the other edits are done there. At 1,025 all are refused.
     let on = |image: Vec<u8>, op: u8, name: &[u8]| Case::new(op, &Arc::new(image), "bench").named(name).numbered(7);
     for count in [256, 257, 1_023] {
@@ -226,6 +233,7 @@ fn bench() -> Vec<Literal> {
     add(on(many(1_024, false), b'a', b"new"), &refusal(13), &many(1_024, false));
     let (mut replaced, mut removed) = (many(1_024, false), many(1_024, false));
     put(&mut replaced, 49_152 + 8, &[0, 0, 0, 8]);
+    put(&mut replaced, 49_152 + 16, &1265u32.to_be_bytes());
     put(&mut replaced, 49_152 + 40, &[9; 8]);
     put(&mut removed, 49_152, &[0xFF; 40]);
     add(on(many(1_024, false), b'r', b"c1023").holding(&[9; 8]), "done\t49152", &replaced);
@@ -234,6 +242,49 @@ fn bench() -> Vec<Literal> {
         add(on(many(1_025, false), op, b"c3"), &refusal(13), &many(1_025, false));
     }
     list
+}
+
+/// A with sums stated, by request 5 of document 02.
+fn sums_of_a(add: &mut dyn FnMut(Case, &str, &[u8])) {
+    let ask = |op: u8, image: &[u8]| Case::new(op, &Arc::new(image.to_vec()), "bench").numbered(7);
+    // Replace writes the sum, whether or not one was stated; the other component's field stays as it was.
+    for (before, after) in [((0, 0), (SUM_12, 0)), ((SUM_12, 0), (SUM_12, 0)), ((0, SUM_13), (SUM_12, SUM_13))] {
+        let case = ask(b'r', &a_stating(before.0, before.1)).named(b"cal/12").holding(&[0; 100]);
+        add(case, "done\t0", &a_stating(after.0, after.1));
+    }
+    let summed = a_stating(SUM_12, SUM_13);
+    let mut image = summed.clone();
+    put(&mut image, 8, &[0, 0, 0, 3]);
+    put(&mut image, 16, &2397u32.to_be_bytes());
+    put(&mut image, 40, b"abc");
+    put(&mut image, 43, &[0xFF; 149]);
+    add(ask(b'r', &summed).named(b"cal/12").holding(b"abc"), "done\t0", &image);
+    // 300 bytes 0xFF for cal/13: the sum is above 2^16.
+    let wide = crate::bench::wide_stating(crate::bench::WIDE_SUM);
+    add(ask(b'r', &image_a()).named(b"cal/13").holding(&[0xFF; 300]), "done\t192", &wide);
+    let mut image = summed.clone();
+    put(&mut image, 0, &[0xFF; 192]);
+    add(ask(b'd', &summed).named(b"cal/12"), "done\t0", &image);
+    let mut image = summed.clone();
+    put(&mut image, 256, &Raw { checksum: 959, ..Raw::new(b"log", 7, b"") }.bytes());
+    add(ask(b'a', &summed).named(b"log"), "done\t256", &image);
+    // An image with a wrong sum: 12 at its place, for an edit of that component too.
+    let mut refused = |image: &[u8], place: usize| {
+        for (op, name) in [(b'a', &b"log"[..]), (b'r', b"cal/12"), (b'r', b"cal/13"), (b'd', b"cal/12"), (b'd', b"cal/13")] {
+            add(ask(op, image).named(name), &format!("refused\t12\t{place}\t0"), image);
+        }
+    };
+    for wrong in WRONG_12 {
+        refused(&a_stating(wrong, SUM_13), 0);
+    }
+    for wrong in WRONG_13 {
+        refused(&a_stating(0, wrong), 192);
+    }
+    // Len made 500: 12 at the hidden cal/13 where cal/12 states its sum, and at cal/12 where it states a wrong one.
+    refused(&long_stating(LONG_SUM, 0), 192);
+    for wrong in WRONG_LONG {
+        refused(&long_stating(wrong, 0), 0);
+    }
 }
 
 /// Three components with gaps between, the region's end off a multiple of align; none where they are not accepted.
@@ -247,7 +298,7 @@ fn three(rng: &mut Rng, align: usize, length: usize, gap: usize) -> Option<(Arc<
             let raw = Raw::new(name.as_bytes(), index as u32, &[5; 8]);
             // The second one has a longer name field than it needs.
             let raw = if index == 1 && step >= 80 { raw.with_field(32) } else { raw };
-            put(&mut image, at as i64, &raw.bytes());
+            put(&mut image, at as i64, &summed_or_not(rng, raw).bytes());
         }
     }
     Frame::new(length, 40, length - end, align, 0).stamp(&mut image);
@@ -376,6 +427,18 @@ fn longest(cases: &mut Vec<Case>) {
     }
 }
 
+/// Contents that fill the longest region, or miss it by one byte: written with a sum of nearly 2^24.
+fn widest(cases: &mut Vec<Case>) {
+    let (frame, raw) = cases::widest();
+    let empty = Arc::new(lay(&frame, &[]));
+    let full = Arc::new(lay(&frame, &[(64, raw.clone().summed())]));
+    for size in [raw.content.len() - 1, raw.content.len(), raw.content.len() + 1] {
+        let content = vec![0xFF; size];
+        cases.push(Case::new(b'a', &empty, "widest").named(b"wide").holding(&content).numbered(0xFFFF_FFFF));
+        cases.push(Case::new(b'r', &full, "widest").named(b"wide").holding(&content));
+    }
+}
+
 /// Single edits at every boundary.
 fn edges(rng: &mut Rng, cases: &mut Vec<Case>) {
     for (align, length) in [(16, 600), (64, 1200), (256, 2400), (1024, 5000)] {
@@ -390,6 +453,7 @@ fn edges(rng: &mut Rng, cases: &mut Vec<Case>) {
         }
     }
     few_and_many(rng, cases);
+    widest(cases);
 }
 
 /// One random edit of an image, often at an edge of a room in it.
@@ -424,13 +488,34 @@ fn random_edit(rng: &mut Rng, image: &Arc<Vec<u8>>) -> Case {
     Case::new(op, image, "random edit").named(&name).holding(&content).numbered(if op == b'a' { kind } else { 0 })
 }
 
+/// The same edit of an image in which a component has a wrong sum, or a byte of it is another under its sum. None where there is none.
+fn of_wrong_sum(rng: &mut Rng, case: &Case) -> Option<Case> {
+    let mut image = case.image.to_vec();
+    let region = master::region(&image).ok()?;
+    let list = walk::listing(&image, region, walk::judge);
+    let it = list.get(rng.below(list.len()))?;
+    if it.checksum != 0 && rng.one_in(2) {
+        image[it.place + 24 + rng.below(it.end - it.place - 24)] ^= 1 << rng.below(8);
+    } else {
+        let stated = sums::wrong(rng);
+        sums::state(rng, &mut image, it.place, stated);
+    }
+    Some(Case { image: Arc::new(image), note: "wrong sum", ..case.clone() })
+}
+
 fn generated(seed: u64, count: usize) -> Vec<Batch> {
     let mut rng = Rng::new(seed ^ 0xED17);
     let mut cases = Vec::new();
     edges(&mut rng, &mut cases);
 
-    // Refused images of every kind.
+    // Refused images of every kind, and stated sums of every kind.
     for scene in cases::fixed(&mut rng) {
+        if scene.note == "checksum" {
+            let name = if rng.one_in(2) { &scene.names[0] } else { scene.names.last().expect("a name") };
+            cases.push(Case::new(b'a', &scene.image, scene.note).named(b"new").holding(b"x"));
+            cases.push(Case::new(b'r', &scene.image, scene.note).named(name).holding(b"xyz"));
+            cases.push(Case::new(b'd', &scene.image, scene.note).named(name));
+        }
         let seldom = scene.note.starts_with("master") || scene.note.starts_with("pointer") || scene.note.starts_with("length");
         if seldom && scene.image.len() < 5_000 && rng.one_in(6) {
             for op in "ard".bytes() {
@@ -446,7 +531,7 @@ fn generated(seed: u64, count: usize) -> Vec<Batch> {
         }
     }
 
-    // Sequences of edits on one image.
+    // Sequences of edits on one image; now and then one of them on the image with a wrong sum besides, which leaves the sequence as it is.
     let target = cases.len() + count * 3 / 5;
     while cases.len() < target {
         let most = if rng.one_in(20) { 8_192 } else { 2_500 };
@@ -456,6 +541,9 @@ fn generated(seed: u64, count: usize) -> Vec<Batch> {
         let mut image = Arc::new(image);
         for _ in 0..rng.range(3, 25) {
             let case = random_edit(&mut rng, &image);
+            if rng.one_in(8) {
+                cases.extend(of_wrong_sum(&mut rng, &case));
+            }
             let (_, after) = edited(&case);
             image = Arc::new(after);
             cases.push(case);
@@ -471,6 +559,6 @@ fn generated(seed: u64, count: usize) -> Vec<Batch> {
             broken = Some(format!("the reference: {text}: {}", case.describe()));
         }
     }
-    let after: crate::capability::After = Box::new(move |_| broken.clone().map_or(Ok(()), Err));
+    let after: crate::capability::After = Box::new(move |_| broken.clone().map_or(Ok(Vec::new()), Err));
     vec![Batch { cases, after: Some(after) }]
 }

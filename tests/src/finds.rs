@@ -3,16 +3,20 @@
 
 use std::sync::Arc;
 
-use crate::bench::{long_cal_12, reframed, twice_cal_13, CAL_12, CAL_13};
+use crate::bench::{
+    long_cal_12, long_stating, reframed, twice_cal_13, twice_stating, wide_stating, CAL_12, CAL_13, GOOD, LONG_SUM, SUM_12,
+    WIDE_SUM, WRONG_12, WRONG_13, WRONG_LONG, WRONG_WIDE,
+};
 use crate::bytes::hex;
 use crate::capability::{Batch, Both, Capability, Literal};
-use crate::cases::{self, long_name, Scene};
+use crate::cases::{self, long_name, summed_or_not, Scene};
 use crate::guarded::raw_region;
-use crate::image::{image_a, lay, put, Frame, Raw};
+use crate::image::{a_stating, image_a, lay, put, Frame, Raw};
 use crate::master::{self, Region};
 use crate::plain::master_both;
 use crate::protocol::{refused, Case};
 use crate::rng::Rng;
+use crate::sums::{magics, mostly_good, state_each, Stated};
 use crate::walk::{self, Component, LARCHIVE};
 use crate::{conditions, strict};
 
@@ -39,7 +43,7 @@ fn answer(case: &Case) -> String {
     }
 }
 
-/// The numbers of a found component: its place, the fields of its header, its name's length and the number to go on from.
+/// The numbers of a found component: its place, the fields of its header, its name's length and the number to go on from; the checksum last.
 fn numbers(region: Region, result: Result<Component, u32>) -> String {
     match result {
         Err(number) => refused(number, 0),
@@ -48,7 +52,7 @@ fn numbers(region: Region, result: Result<Component, u32>) -> String {
             let len = it.end - it.content;
             let named = it.name.len();
             let next = walk::next_place(region, it.end);
-            format!("found\t{}\t{offset}\t{len}\t{}\t{named}\t{next}\n", it.place, it.kind)
+            format!("found\t{}\t{offset}\t{len}\t{}\t{named}\t{next}\t{}\n", it.place, it.kind, it.checksum)
         }
     }
 }
@@ -93,8 +97,8 @@ fn bench() -> Vec<Literal> {
 
     let a = Arc::new(image_a());
     for op in "ez".bytes() {
-        add(ask(op, &a).named(b"cal/12"), "found\t0\t40\t100\t4294967295\t6\t192\n".into());
-        add(ask(op, &a).named(b"cal/13"), "found\t192\t40\t24\t4294967295\t6\t256\n".into());
+        add(ask(op, &a).named(b"cal/12"), "found\t0\t40\t100\t4294967295\t6\t192\t0\n".into());
+        add(ask(op, &a).named(b"cal/13"), "found\t192\t40\t24\t4294967295\t6\t256\t0\n".into());
         for name in [&b"cal/1"[..], b"cal/123", b"cal/12\0", b""] {
             add(ask(op, &a).named(name), "refused\t10\t0\t0\n".into());
         }
@@ -113,13 +117,13 @@ fn bench() -> Vec<Literal> {
     add(ask(b'u', &long), format!("part\t{CAL_12}\n"));
     add(ask(b'u', &long).numbered(192), format!("part\t{CAL_13}\n"));
     add(ask(b'v', &long).numbered(192), format!("part\t{zeros}\n"));
-    add(ask(b'e', &long).named(b"cal/12"), "found\t0\t40\t500\t4294967295\t6\t576\n".into());
+    add(ask(b'e', &long).named(b"cal/12"), "found\t0\t40\t500\t4294967295\t6\t576\t0\n".into());
     add(ask(b'e', &long).named(b"cal/13"), "refused\t10\t0\t0\n".into());
     add(ask(b'z', &long).named(b"cal/12"), "refused\t10\t0\t0\n".into());
-    add(ask(b'z', &long).named(b"cal/13"), "found\t192\t40\t24\t4294967295\t6\t256\n".into());
+    add(ask(b'z', &long).named(b"cal/13"), "found\t192\t40\t24\t4294967295\t6\t256\t0\n".into());
     // A with cal/12's name made cal/13.
     let twice = twice_cal_13();
-    add(ask(b'e', &twice).named(b"cal/13"), "found\t0\t40\t100\t4294967295\t6\t192\n".into());
+    add(ask(b'e', &twice).named(b"cal/13"), "found\t0\t40\t100\t4294967295\t6\t192\t0\n".into());
     add(ask(b'z', &twice).named(b"cal/13"), "refused\t11\t0\t0\n".into());
     // A refused image has no parts.
     let refused = reframed(|frame| frame.align = 48);
@@ -130,11 +134,69 @@ fn bench() -> Vec<Literal> {
     let longest = lay(&Frame::new(408, 36, 64, 64, 64), &[(64, Raw::new(&[b'n'; 255], 80, b""))]);
     let longest = Arc::new(longest);
     for op in "ez".bytes() {
-        add(ask(op, &longest).named(&[b'n'; 255]), "found\t64\t280\t0\t80\t255\t344\n".into());
+        add(ask(op, &longest).named(&[b'n'; 255]), "found\t64\t280\t0\t80\t255\t344\t0\n".into());
     }
     add(ask(b'u', &longest).numbered(64), format!("part\t{}\n", "6e".repeat(255)));
     add(ask(b'v', &longest).numbered(64), "part\t-\n".into());
+    sums_of_a(&mut add);
     list
+}
+
+/// A with sums stated, by request 5 of document 02.
+fn sums_of_a(add: &mut dyn FnMut(Case, String)) {
+    let ask = |op: u8, image: &Arc<Vec<u8>>| Case::new(op, image, "bench");
+    let nobody = "refused\t10\t0\t0\n";
+    for (one, other) in GOOD {
+        let image = Arc::new(a_stating(one, other));
+        for op in "ez".bytes() {
+            add(ask(op, &image).named(b"cal/12"), format!("found\t0\t40\t100\t4294967295\t6\t192\t{one}\n"));
+            add(ask(op, &image).named(b"cal/13"), format!("found\t192\t40\t24\t4294967295\t6\t256\t{other}\n"));
+        }
+        add(ask(b'u', &image), format!("part\t{CAL_12}\n"));
+        add(ask(b'v', &image).numbered(192), format!("part\t{}\n", "00".repeat(24)));
+    }
+    let not_served = |image: Arc<Vec<u8>>, name: &[u8], place: u64, add: &mut dyn FnMut(Case, String)| {
+        for op in "ez".bytes() {
+            add(ask(op, &image).named(name), nobody.into());
+        }
+        for op in "uv".bytes() {
+            add(ask(op, &image).numbered(place), "part\t-\n".into());
+        }
+    };
+    for wrong in WRONG_12 {
+        not_served(Arc::new(a_stating(wrong, 0)), b"cal/12", 0, add);
+    }
+    for wrong in WRONG_13 {
+        not_served(Arc::new(a_stating(SUM_12, wrong)), b"cal/13", 192, add);
+    }
+    for wrong in WRONG_WIDE {
+        not_served(wide_stating(wrong), b"cal/13", 192, add);
+    }
+    for op in "ez".bytes() {
+        let found = format!("found\t192\t40\t300\t4294967295\t6\t576\t{WIDE_SUM}\n");
+        add(ask(op, &wide_stating(WIDE_SUM)).named(b"cal/13"), found);
+    }
+    // Len made 500: with its sum cal/12 is found by the plain walk, and is there by its place; with a wrong one neither.
+    let long = long_stating(LONG_SUM, 0);
+    add(ask(b'e', &long).named(b"cal/12"), format!("found\t0\t40\t500\t4294967295\t6\t576\t{LONG_SUM}\n"));
+    add(ask(b'e', &long).named(b"cal/13"), nobody.into());
+    add(ask(b'z', &long).named(b"cal/12"), nobody.into());
+    add(ask(b'u', &long), format!("part\t{CAL_12}\n"));
+    add(ask(b'u', &long).numbered(192), format!("part\t{CAL_13}\n"));
+    for wrong in WRONG_LONG {
+        let long = long_stating(wrong, 0);
+        add(ask(b'e', &long).named(b"cal/13"), "found\t192\t40\t24\t4294967295\t6\t256\t0\n".into());
+        not_served(long, b"cal/12", 0, add);
+    }
+    // Name made cal/13: the sum that was right is so no longer.
+    for (op, stated, answer) in [
+        (b'e', 2201, "found\t0\t40\t100\t4294967295\t6\t192\t2201\n"),
+        (b'e', 2200, "found\t192\t40\t24\t4294967295\t6\t256\t0\n"),
+        (b'z', 2201, "refused\t11\t0\t0\n"),
+        (b'z', 2200, "found\t192\t40\t24\t4294967295\t6\t256\t0\n"),
+    ] {
+        add(ask(op, &twice_stating(stated)).named(b"cal/13"), answer.into());
+    }
 }
 
 /// A region that begins above 0, with every kind of place: components with and without content, one whose span holds others, at
@@ -201,6 +263,29 @@ fn every_place(cases: &mut Vec<Case>) {
     }
 }
 
+/// The same images with sums stated: the right ones, and right and wrong ones.
+fn summed_places(rng: &mut Rng, cases: &mut Vec<Case>) {
+    for (align, ragged) in [(16, 9), (64, 0), (64, 33), (256, 255)] {
+        for choose in [|_: &mut Rng| Stated::Right, mostly_good, mostly_good, mostly_good] {
+            let (frame, image) = places(align, ragged);
+            let mut image = frame.over(image);
+            let carrying = magics(&image, frame.region());
+            state_each(rng, &mut image, &carrying, choose);
+            let image = Arc::new(image);
+            for number in (0..image.len() as u64).step_by(align) {
+                for op in "uv".bytes() {
+                    cases.push(Case::new(op, &image, "checksum").numbered(number));
+                }
+            }
+            for name in ["outer", "inner", "empty", "ill", "wraps", "twin", "last"] {
+                for op in "ez".bytes() {
+                    cases.push(Case::new(op, &image, "checksum").named(name.as_bytes()));
+                }
+            }
+        }
+    }
+}
+
 /// The same images, refused by each of 1 to 8, asked for what stands in them.
 fn refused_images(cases: &mut Vec<Case>) {
     let mut images = vec![lay(&Frame::new(63, 36, 0, 16, 0), &[])];
@@ -235,7 +320,7 @@ fn refused_images(cases: &mut Vec<Case>) {
 }
 
 /// Spans that end at a place, one byte before and after it, and at the region's end; names of every length that changes the offset.
-fn ends(cases: &mut Vec<Case>) {
+fn ends(rng: &mut Rng, cases: &mut Vec<Case>) {
     for align in [16, 64, 1024] {
         for name in [1, 15, 16, 31, 32, 239, 240, 254, 255].map(long_name) {
             let head = Raw::new(&name, 0, b"").bytes().len();
@@ -244,7 +329,7 @@ fn ends(cases: &mut Vec<Case>) {
                 for spare in [0, 1, align - 1, align, align + 41] {
                     let start = 3 * align;
                     let end = start + size + spare;
-                    let raw = Raw::new(&name, 0x1234_5678, &vec![0xA5; size - head]);
+                    let raw = summed_or_not(rng, Raw::new(&name, 0x1234_5678, &vec![0xA5; size - head]));
                     let image = Arc::new(lay(&Frame::new(end + 64, 36, 64, align, start), &[(start, raw)]));
                     for op in "ez".bytes() {
                         cases.push(Case::new(op, &image, "end").named(&name));
@@ -283,10 +368,11 @@ fn generated(seed: u64, count: usize) -> Vec<Batch> {
     let mut cases = Vec::new();
     every_place(&mut cases);
     refused_images(&mut cases);
-    ends(&mut cases);
+    ends(&mut rng, &mut cases);
+    summed_places(&mut rng, &mut cases);
     cases::longest().iter().for_each(|scene| ask(&mut rng, scene, &mut cases));
     for scene in cases::fixed(&mut rng) {
-        if scene.image.len() < 20_000 && rng.one_in(10) {
+        if scene.note == "checksum" || scene.image.len() < 20_000 && rng.one_in(10) {
             ask(&mut rng, &scene, &mut cases);
         }
     }

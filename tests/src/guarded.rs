@@ -3,17 +3,21 @@
 use std::sync::Arc;
 
 use crate::accepted::{many, many_and_new};
-use crate::bench::{long_cal_12, twice_cal_13, CAL_13};
+use crate::bench::{
+    long_cal_12, long_stating, twice_cal_13, twice_stating, wide_stating, CAL_12, CAL_13, GOOD, LONG_SUM, LONG_SUM_OVER_SUM,
+    SUM_12, SUM_13, WIDE_SUM, WRONG_12, WRONG_13, WRONG_LONG, WRONG_WIDE,
+};
 use crate::bytes::big32;
 use crate::capability::{Batch, Both, Capability, Literal};
 use crate::cases::{self, Scene};
-use crate::image::{image_a, lay, put, Frame, Raw};
+use crate::image::{a_stating, image_a, lay, put, Frame, Raw};
 use crate::master::{self, Region};
 use crate::plain::{found, listing, master_both, step};
 use crate::protocol::{refused, Case};
 use crate::rng::Rng;
+use crate::sums::{mostly_good, state, Stated};
 use crate::walk::{self, LARCHIVE};
-use crate::{conditions, spoiler, strict};
+use crate::{conditions, spoiler, strict, sums};
 
 pub fn capability() -> Capability {
     Capability { name: "guarded", operations: "gjkc", answer, pairs, bench, both, generated, share: 60 }
@@ -81,7 +85,18 @@ fn strict_pairs() -> Vec<(u32, u32, Arc<Vec<u8>>)> {
     put(&mut crowd, 48 * 1_026, LARCHIVE);
     let mut same = many(3, true);
     put(&mut same, 0, LARCHIVE);
-    vec![(8, 12, Arc::new(eight)), (12, 13, Arc::new(crowd)), (13, 11, Arc::new(many(1_025, true))), (12, 11, Arc::new(same))]
+    // The same two, where the magic is a component's with a wrong sum.
+    let (mut wrong_crowd, mut wrong_same) = (many(1_026, false), many(4, true));
+    put(&mut wrong_crowd, 48 + 16, &[0xFF; 4]);
+    put(&mut wrong_same, 96 + 16, &[0xFF; 4]);
+    vec![
+        (8, 12, Arc::new(eight)),
+        (12, 13, Arc::new(crowd)),
+        (12, 13, Arc::new(wrong_crowd)),
+        (13, 11, Arc::new(many(1_025, true))),
+        (12, 11, Arc::new(same)),
+        (12, 11, Arc::new(wrong_same)),
+    ]
 }
 
 /// Each of these operations on each of those images, with the name of a component in them.
@@ -147,6 +162,7 @@ fn bench() -> Vec<Literal> {
     add(ask(b'g', &empty), "end\t0\n".into());
     add(ask(b'j', &empty), "none\n".into());
     add(ask(b'c', &empty), "accepted\t0\t0\n".into());
+    sums_of_a(&mut add);
     // 1,024 components are accepted, as an add to 1,023 leaves them too; 1,025 are not. Equal names are 11 at 1,024 and 13 at 1,025.
     let places = |count: usize| -> String { (1..=count).map(|index| format!("\t{}", 48 * index)).collect() };
     for count in [256, 257, 1_023, 1_024] {
@@ -159,7 +175,71 @@ fn bench() -> Vec<Literal> {
     list
 }
 
-/// A magic in a span, at its end and around it, at each align.
+/// A with sums stated, by request 5 of document 02.
+fn sums_of_a(add: &mut dyn FnMut(Case, String)) {
+    let ask = |op: u8, image: &Arc<Vec<u8>>| Case::new(op, image, "bench");
+    let (hundred, zeros) = ("00".repeat(100), "00".repeat(24));
+    let first = format!("0\t4294967295\t{CAL_12}\t{hundred}");
+    let second = format!("192\t4294967295\t{CAL_13}\t{zeros}");
+    let found_second = format!("found\t192\t4294967295\t{zeros}\n");
+    let refusal = |number: u32, place: usize| format!("refused\t{number}\t{place}\t0\n");
+
+    for (one, other) in GOOD {
+        let image = Arc::new(a_stating(one, other));
+        add(ask(b'c', &image), "accepted\t2\t0\t0\t192\n".into());
+        add(ask(b'g', &image), format!("component\t{first}\ncomponent\t{second}\nend\t2\n"));
+        add(ask(b'j', &image), format!("taken\t{first}\t192\n"));
+        add(ask(b'k', &image).named(b"cal/12"), format!("found\t0\t4294967295\t{hundred}\n"));
+        add(ask(b'k', &image).named(b"cal/13"), found_second.clone());
+    }
+    for wrong in WRONG_12 {
+        let image = Arc::new(a_stating(wrong, SUM_13));
+        add(ask(b'c', &image), refusal(12, 0));
+        add(ask(b'g', &image), format!("component\t{second}\nend\t1\n"));
+        add(ask(b'j', &image), format!("taken\t{second}\t256\n"));
+        add(ask(b'k', &image).named(b"cal/12"), refusal(10, 0));
+        add(ask(b'k', &image).named(b"cal/13"), found_second.clone());
+    }
+    for wrong in WRONG_13 {
+        let image = Arc::new(a_stating(SUM_12, wrong));
+        add(ask(b'c', &image), refusal(12, 192));
+        add(ask(b'g', &image), format!("component\t{first}\nend\t1\n"));
+        add(ask(b'j', &image).numbered(64), "none\n".into());
+        add(ask(b'k', &image).named(b"cal/13"), refusal(10, 0));
+    }
+    let neither = Arc::new(a_stating(SUM_12 + 1, SUM_13 - 1));
+    add(ask(b'c', &neither), refusal(12, 0));
+    add(ask(b'g', &neither), "end\t0\n".into());
+    // Len made 500: with its sum, or none, the plain walk takes cal/12, and 12 is at the hidden cal/13; with a wrong one at cal/12.
+    for (one, other) in [(0, SUM_13), (LONG_SUM, 0), (LONG_SUM_OVER_SUM, SUM_13)] {
+        let long = long_stating(one, other);
+        add(ask(b'c', &long), refusal(12, 192));
+        add(ask(b'g', &long), format!("component\t{second}\nend\t1\n"));
+        add(ask(b'k', &long).named(b"cal/12"), refusal(10, 0));
+    }
+    for wrong in WRONG_LONG {
+        let long = long_stating(wrong, 0);
+        add(ask(b'c', &long), refusal(12, 0));
+        add(ask(b'g', &long), format!("component\t{second}\nend\t1\n"));
+    }
+    // cal/13's sum is wrong, and cal/12 hides it: both walks pass it over, and it is the place that the plain walk does not take.
+    add(ask(b'c', &long_stating(0, SUM_13 + 1)), refusal(12, 192));
+    add(ask(b'g', &long_stating(0, SUM_13 + 1)), "end\t0\n".into());
+    // Name made cal/13: the sum that was right is so no longer, and there is one bearer.
+    add(ask(b'k', &twice_stating(2201)).named(b"cal/13"), refusal(11, 0));
+    add(ask(b'k', &twice_stating(2200)).named(b"cal/13"), found_second);
+    add(ask(b'c', &twice_stating(2201)), refusal(11, 0));
+    add(ask(b'c', &twice_stating(2200)), refusal(12, 0));
+    // A sum above 2^16.
+    add(ask(b'c', &wide_stating(WIDE_SUM)), "accepted\t2\t0\t0\t192\n".into());
+    for wrong in WRONG_WIDE {
+        add(ask(b'c', &wide_stating(wrong)), refusal(12, 192));
+        add(ask(b'k', &wide_stating(wrong)).named(b"cal/13"), refusal(10, 0));
+    }
+}
+
+/// A magic in a span, at its end and around it, at each align. The span states no sum; at times there is the same with its sum, or a
+/// wrong one, beside it.
 fn buried(rng: &mut Rng, scenes: &mut Vec<Scene>) {
     for align in [16, 64, 256] {
         let size = 4 * align + 100;
@@ -175,12 +255,24 @@ fn buried(rng: &mut Rng, scenes: &mut Vec<Scene>) {
                         let bytes = if whole { &inner[..] } else { LARCHIVE };
                         put(&mut image, (at * align) as i64 + shift, bytes);
                         Frame::new(length, 36, 40, align, 0).stamp(&mut image);
-                        scenes.push(Scene {
-                            image: Arc::new(image),
-                            numbers: vec![0, (at * align).min(end) as u64],
-                            names: vec![b"outer".to_vec(), b"inner".to_vec()],
-                            note: "buried",
-                        });
+                        let mut scene = |image: Vec<u8>| {
+                            scenes.push(Scene {
+                                image: Arc::new(image),
+                                numbers: vec![0, (at * align).min(end) as u64],
+                                names: vec![b"outer".to_vec(), b"inner".to_vec()],
+                                note: "buried",
+                            });
+                        };
+                        scene(image.clone());
+                        if shift == 0 || rng.one_in(3) {
+                            if whole {
+                                let stated = mostly_good(rng);
+                                state(rng, &mut image, ((at * align) as i64 + shift) as usize, stated);
+                            }
+                            let stated = if rng.one_in(2) { Stated::Right } else { sums::wrong(rng) };
+                            state(rng, &mut image, 0, stated);
+                            scene(image);
+                        }
                     }
                 }
             }
@@ -188,13 +280,16 @@ fn buried(rng: &mut Rng, scenes: &mut Vec<Scene>) {
     }
 }
 
-/// The magic in the name, at each multiple of 16 from the header and beside it, at places and between them.
+/// The magic in the name, at each multiple of 16 from the header and beside it, at places and between them; without a sum and with it.
 fn buried_in_name(scenes: &mut Vec<Scene>) {
     for align in [16, 32, 64, 256] {
         for at in (32..=256).step_by(16).flat_map(|at| [at - 1, at, at + 1]) {
             let name = [&vec![b'x'; at - 24][..], LARCHIVE].concat();
-            let image = lay(&Frame::new(1024, 36, 100, align, 0), &[(0, Raw::new(&name, 1, b"content"))]);
-            scenes.push(Scene { image: Arc::new(image), numbers: vec![0], names: vec![name], note: "buried in the name" });
+            let raw = Raw::new(&name, 1, b"content");
+            for raw in [raw.clone(), raw.summed()] {
+                let image = Arc::new(lay(&Frame::new(1024, 36, 100, align, 0), &[(0, raw)]));
+                scenes.push(Scene { image, numbers: vec![0], names: vec![name.clone()], note: "buried in the name" });
+            }
         }
     }
 }
@@ -258,6 +353,7 @@ fn generated(seed: u64, count: usize) -> Vec<Batch> {
         ask(&cases::random(&mut rng), &mut cases);
     }
     let mut batches = vec![Batch::plain(cases)];
+    batches.extend(spoiler::single_damages(&mut rng));
     batches.extend(spoiler::batches(&mut rng, count / 3));
     let mut cases = Vec::new();
     cases::longest().iter().for_each(|scene| ask(scene, &mut cases));

@@ -1,9 +1,9 @@
 //! Builds images: the frame (master header and P) and raw components, right or wrong in any field.
 //! Document 01, "Master header" and "Components and the two walks".
 
-use crate::master;
+use crate::master::{self, Region};
 use crate::rng::Rng;
-use crate::walk::LARCHIVE;
+use crate::walk::{self, LARCHIVE};
 
 /// The numbers of a master header and P, as they shall stand in the image.
 #[derive(Clone, Debug)]
@@ -39,6 +39,10 @@ impl Frame {
         self.length - self.boot as usize
     }
 
+    pub fn region(&self) -> Region {
+        Region { start: self.offset as usize, end: self.end(), align: self.align as usize }
+    }
+
     /// Writes header and P, as far as they lie in the image, P last.
     pub fn stamp(&self, image: &mut [u8]) {
         let numbers = [self.magic, self.version, self.romsize, self.boot, self.align, self.offset, self.pads[0], self.pads[1]];
@@ -71,7 +75,7 @@ pub struct Raw {
 }
 
 impl Raw {
-    /// A well-formed component with the shortest name field.
+    /// A well-formed component with the shortest name field, which states no sum.
     pub fn new(name: &[u8], kind: u32, content: &[u8]) -> Raw {
         let mut field = name.to_vec();
         field.push(0);
@@ -93,6 +97,12 @@ impl Raw {
     pub fn with_field(mut self, bytes: usize) -> Raw {
         self.field.resize(bytes, 0);
         self.offset = 24 + bytes as u32;
+        self
+    }
+
+    /// The same with its right sum stated, where its span will be these bytes.
+    pub fn summed(mut self) -> Raw {
+        self.checksum = walk::sum(&self.bytes());
         self
     }
 
@@ -146,6 +156,14 @@ pub fn lay(frame: &Frame, components: &[(usize, Raw)]) -> Vec<u8> {
         put(&mut image, *place as i64, &raw.bytes());
     }
     frame.over(image)
+}
+
+/// Bench image A with these checksums in the headers of cal/12 and cal/13.
+pub fn a_stating(first: u32, second: u32) -> Vec<u8> {
+    let (frame, mut components) = bench_a();
+    components[0].1.checksum = first;
+    components[1].1.checksum = second;
+    lay(&frame, &components)
 }
 
 /// Bench image A itself.

@@ -1,12 +1,15 @@
 //! The listing program, on bench images, on images of every refusal, on random ones and on inputs of every length.
 
+use std::sync::Arc;
+
 use crate::cases;
 use crate::compare::check_output;
 use crate::image::{put, Frame, Raw};
+use crate::protocol::Case;
 use crate::rng::Rng;
 use crate::run::Words;
 use crate::tally::{clip, Tally};
-use crate::{bench, master, plain, program};
+use crate::{bench, deciding, master, plain, program};
 
 type Input = (Vec<u8>, &'static str);
 
@@ -33,7 +36,7 @@ fn long() -> Vec<Input> {
     let mut inputs: Vec<Input> = Vec::new();
     for length in [65_535, 65_536, 65_537, 65_538, 131_072, 200_000] {
         let mut image = vec![0xFF; length];
-        put(&mut image, 1024, &Raw::new(b"big", 0x10, b"content").bytes());
+        put(&mut image, 1024, &Raw::new(b"big", 0x10, b"content").summed().bytes());
         Frame::new(length, 36, 4096, 64, 64).stamp(&mut image);
         inputs.push((image, "length"));
         inputs.push((vec![0; length], "length"));
@@ -41,7 +44,7 @@ fn long() -> Vec<Input> {
     inputs
 }
 
-/// Some of the fixed scenes, three of each refusal among them, and random ones.
+/// Some of the fixed scenes, three of each refusal and some of stated sums among them, and random ones.
 fn generated(rng: &mut Rng) -> Vec<Input> {
     let fixed = cases::fixed(rng);
     let every = fixed.len() / 300 + 1;
@@ -50,8 +53,20 @@ fn generated(rng: &mut Rng) -> Vec<Input> {
     for number in 1..=8 {
         scenes.extend(fixed.iter().filter(|scene| master::region(&scene.image) == Err(number)).take(3));
     }
+    scenes.extend(fixed.iter().filter(|scene| scene.note == "checksum").step_by(17));
     let random: Vec<cases::Scene> = (0..200).map(|_| cases::random(rng)).collect();
     scenes.into_iter().chain(&random).map(|scene| (scene.image.to_vec(), scene.note)).collect()
+}
+
+/// What an input shows of stated sums: the program lists what the plain walk takes.
+fn count_sums(input: &[u8], tally: &mut Tally) {
+    if input.len() > program::LIMIT {
+        return;
+    }
+    let case = Case::new(b'p', &Arc::new(input.to_vec()), "listing program");
+    for (call, kind) in deciding::kinds("listing program", &case, &plain::answer(&case), plain::answer) {
+        tally.count(&call, kind);
+    }
 }
 
 pub fn test(list: &Words, seed: u64, tally: &mut Tally) {
@@ -63,5 +78,6 @@ pub fn test(list: &Words, seed: u64, tally: &mut Tally) {
     for (number, (input, note)) in inputs.iter().enumerate() {
         let note = format!("input {number} ({note})");
         check_output(list, input, &program::output(input), &note, "listing program", tally);
+        count_sums(input, tally);
     }
 }

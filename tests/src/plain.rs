@@ -16,7 +16,7 @@ pub fn capability() -> Capability {
     Capability { name: "plain", operations: "mpil", answer, pairs, bench: bench::plain, both, generated, share: 100 }
 }
 
-fn answer(case: &Case) -> String {
+pub fn answer(case: &Case) -> String {
     let region = match master::region(&case.image) {
         Ok(region) => region,
         Err(number) => return refused(number, 0),

@@ -10,6 +10,7 @@ use crate::load::{self, BSS, CODE, DATA, ENTRY, PARAMS, PAYLOAD, STAGE};
 use crate::plain::master_both;
 use crate::protocol::{refused, Case};
 use crate::rng::Rng;
+use crate::sums::{self, state, Stated};
 use crate::{conditions, walk};
 
 pub fn capability() -> Capability {
@@ -105,11 +106,12 @@ fn payload_bytes(records: &[Record], rest: usize) -> Vec<u8> {
     bytes
 }
 
-/// An image with one component of this content, and another before it; the place is 128.
+/// An image with one component of this content, and another before it; the place is 128. An odd sum is stated, an even one is not.
 const PLACE: usize = 128;
 
 fn holding(kind: u32, name: &[u8], content: &[u8]) -> Arc<Vec<u8>> {
     let raw = Raw::new(name, kind, content);
+    let raw = if walk::sum(&raw.bytes()) % 2 == 1 { raw.summed() } else { raw };
     let size = raw.bytes().len();
     let end = PLACE + size;
     let length = end + 60;
@@ -273,7 +275,32 @@ fn bench() -> Vec<Literal> {
         };
         list.push(Literal { case: ask_stage(&stage.bytes(), "bench"), answer });
     }
+    // The first of these stages with its sum: LARCHIVE 590, len 44, type 16, offset 40, name 436, content 5786. With a wrong one no
+    // component has the name.
+    let load = u64::MAX - 15;
+    let stage = StageFields { compression: 0, entry: load, load, len: 16, memlen: 16, rest: 16 };
+    for (stated, good) in [(6912, true), (0, true), (6911, false), (6913, false), (1126, false), (72_448, false)] {
+        let mut case = ask_stage(&stage.bytes(), "bench");
+        stating(&mut case, stated);
+        let answer =
+            if good { "stage\t0\t18446744073709551600\t18446744073709551600\t196\t16\t16\n" } else { "refused\t10\t0\t0\n" };
+        list.push(Literal { case, answer: answer.into() });
+    }
+    // A payload of one ENTRY: LARCHIVE 590, len 28, type 32, offset 40, name 436, ENTR 313, a load address of 1.
+    for (stated, good) in [(1440, true), (0, true), (1439, false), (1441, false), (1126, false), (0xFFFF_FFFF, false)] {
+        let mut case = ask_payload(&payload_bytes(&[entry(1)], 0), "bench");
+        stating(&mut case, stated);
+        let answer = if good { "payload\t1\t0\nsegment\t1381256773\t0\t0\t1\t0\t0\n" } else { "refused\t10\t0\t0\n" };
+        list.push(Literal { case, answer: answer.into() });
+    }
     list
+}
+
+/// Puts a checksum into the header at `PLACE`.
+fn stating(case: &mut Case, checksum: u32) {
+    let mut image = case.image.to_vec();
+    put(&mut image, PLACE as i64 + 16, &checksum.to_be_bytes());
+    case.image = Arc::new(image);
 }
 
 const EDGES_32: [u32; 8] = [0, 1, 2, 3, 4, 0x7FFF_FFFF, 0x8000_0000, 0xFFFF_FFFF];
@@ -493,6 +520,33 @@ fn random_payload(rng: &mut Rng) -> Vec<u8> {
     bytes
 }
 
+/// Stages and payloads with no sum, the right one and each wrong one; alone, or with another of the same name and type after it.
+fn checksums(rng: &mut Rng, cases: &mut Vec<Case>) {
+    let stage = StageFields { compression: 0, entry: 0x1000, load: 0x1000, len: 40, memlen: 64, rest: 40 }.bytes();
+    let high = Record { kind: CODE, compression: 1, offset: 40, load: 0xFFFF_FFFF_FFFF, len: 300, memlen: 0xFFFF };
+    let payload = payload_bytes(&[high, entry(0xFFFF_FFFF)], 300);
+    for (op, kind, content) in [(b's', STAGE, stage), (b'y', PAYLOAD, payload)] {
+        let raw = Raw::new(b"boot", kind, &content);
+        for stated in cases::every_stated() {
+            for second in [None, Some(Stated::None), Some(Stated::Right), Some(sums::wrong(rng))] {
+                let size = raw.bytes().len().div_ceil(64) * 64;
+                let (place, after) = (64, 64 + size);
+                let end = after + size + 5;
+                let mut image = vec![0xEE; end + 60];
+                put(&mut image, place as i64, &raw.bytes());
+                Frame::new(end + 60, 36, 60, 64, 64).stamp(&mut image);
+                if let Some(second) = second {
+                    put(&mut image, after as i64, &raw.bytes());
+                    state(rng, &mut image, after, second);
+                }
+                if state(rng, &mut image, place, stated) {
+                    cases.push(Case::new(op, &Arc::new(image), "checksum").named(b"boot"));
+                }
+            }
+        }
+    }
+}
+
 fn generated(seed: u64, count: usize) -> Vec<Batch> {
     let mut rng = Rng::new(seed ^ 0x91A5);
     let mut cases = Vec::new();
@@ -500,6 +554,7 @@ fn generated(seed: u64, count: usize) -> Vec<Batch> {
     single_records(&mut cases);
     two_targets(&mut cases);
     record_counts(&mut rng, &mut cases);
+    checksums(&mut rng, &mut cases);
 
     // Other types, names that are not there, refused images, both operations on the same image.
     for kind in [0, 0x10, 0x11, 0x20, 0x30, 0x1000_0000, 0x2000_0000, 0xFFFF_FFFF] {
@@ -514,7 +569,7 @@ fn generated(seed: u64, count: usize) -> Vec<Batch> {
     }
     for scene in cases::fixed(&mut rng) {
         let seldom = scene.note.starts_with("master") || scene.note.starts_with("pointer") || scene.note.starts_with("length");
-        if seldom && rng.one_in(8) || scene.note == "names" {
+        if seldom && rng.one_in(8) || scene.note == "names" || scene.note == "checksum" {
             for name in scene.names.iter().take(8) {
                 for op in "sy".bytes() {
                     cases.push(Case::new(op, &scene.image, scene.note).named(name));

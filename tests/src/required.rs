@@ -1,7 +1,12 @@
 //! What a whole run must have reached: every operation of the probe's protocol and the listing program, each kind of their answers,
-//! and each refusal that document 01, "Refusal numbers", allows them; and what the strict check and the edits answer at the limit of
-//! components, and at the one before request 6. No other may come.
+//! and each refusal that document 01, "Refusal numbers", allows them; what the strict check and the edits answer at the limit of
+//! components, and at the one before request 6; and what request 5 makes of stated sums. No other may come.
 
+use std::collections::BTreeSet;
+
+use crate::deciding::{GUARDED, PLACE, PLAIN, STRICT};
+use crate::spoiler::{DAMAGED, DAMAGES};
+use crate::sums::WRONG;
 use crate::tally::Tally;
 
 /// Calls that answer alike: an operation to a letter, or a program by its name.
@@ -72,6 +77,28 @@ pub fn beside(call: &str, kind: &str, count: usize) -> Option<String> {
     (hangs && BESIDE.contains(&count)).then(|| at(kind, count))
 }
 
+/// Calls that judge headers. Each serves a component without a sum and one with its right sum, and is decided by a wrong one.
+const JUDGING: &[&str] = &["p", "g", "i", "j", "l", "k", "c", "a", "r", "d", "s", "y", "e", "z", "u", "v", "listing program"];
+
+/// What the sums of components come to, call by call and for calls together.
+fn of_sums() -> Vec<(&'static str, String)> {
+    let mut list = Vec::new();
+    let mut add = |calls: &[&'static str], kinds: &[&str]| {
+        list.extend(calls.iter().flat_map(|call| kinds.iter().map(move |kind| (*call, kind.to_string()))));
+    };
+    add(JUDGING, &["no sum", "right sum", "wrong sum"]);
+    add(&["c", "a", "r", "d"], &["12 at a wrong sum", "12 in a span with its sum", "12 in a span without a sum"]);
+    let every = [PLAIN, GUARDED, STRICT, PLACE];
+    add(&every, &WRONG.map(|(_, label)| label));
+    add(&every, &["right, empty content", "right, content of 0xFF", "right, sum of 2^16 or more", "right, sum of 2^23 or more"]);
+    add(&every, &["wrong, empty content", "wrong, content of 0xFF", "wrong, sum of 2^16 or more", "wrong, sum of 2^23 or more"]);
+    // The guarded walk takes no such span, and the strict check accepts none.
+    add(&[PLAIN, PLACE], &["right, magic in its span"]);
+    add(&[PLAIN, PLACE, STRICT], &["wrong, magic in its span"]);
+    add(&[DAMAGED], &DAMAGES);
+    list
+}
+
 /// Every call, with every outcome that it must reach.
 pub fn outcomes() -> Vec<(&'static str, String)> {
     let mut list = Vec::new();
@@ -84,12 +111,13 @@ pub fn outcomes() -> Vec<(&'static str, String)> {
     for (call, kind, counts) in AT {
         list.extend(counts.iter().map(|count| (*call, at(kind, *count))));
     }
+    list.extend(of_sums());
     list
 }
 
-/// The calls of the table.
+/// The calls of the tables, each once.
 pub fn calls() -> Vec<&'static str> {
-    ROWS.iter().flat_map(|row| row.calls).copied().collect()
+    outcomes().into_iter().map(|(call, _)| call).collect::<BTreeSet<_>>().into_iter().collect()
 }
 
 /// Fails the run for what it has not reached, and for what no call may answer.

@@ -5,10 +5,13 @@ use std::env;
 use std::io::{self, BufReader, BufWriter, Read, Write};
 use std::process::ExitCode;
 
+use crate::bytes::big32;
 use crate::capability::Capability;
+use crate::image::{a_stating, Raw};
+use crate::master::Region;
 use crate::run::Words;
 use crate::tally::Tally;
-use crate::{capabilities, compare, compare_all, complete, listings, protocol, required, FLOOR};
+use crate::{capabilities, compare, compare_all, complete, edit, listings, protocol, required, strict, walk, FLOOR};
 
 /// What a faulty probe does wrong, each time in one answer only (or at the end).
 const FAULTS: [&str; 7] = ["digit", "line", "extra", "stop", "bad-case", "tail", "rest"];
@@ -116,6 +119,39 @@ fn left_out(probe: &Words, list: &Words) -> bool {
     good
 }
 
+/// Sums that were added up by hand, and what comes of them in bench image A.
+fn sums_by_hand() -> bool {
+    let first = Raw::new(b"cal/12", 0xFFFF_FFFF, &[0; 100]);
+    let spans: [(Vec<u8>, u32); 10] = [
+        // LARCHIVE 590, len 100, type 4 * 255, offset 40, name 99 + 97 + 108 + 47 + 49 + 50.
+        (first.bytes(), 2200),
+        // The field counts as zero, whatever stands in it.
+        (Raw { checksum: 2200, ..first.clone() }.bytes(), 2200),
+        (Raw { checksum: 0xFFFF_FFFF, ..first }.bytes(), 2200),
+        (Raw::new(b"cal/13", 0xFFFF_FFFF, &[0; 24]).bytes(), 2125),
+        // 590, offset 40, name 33; with a name field of 240 bytes offset 1 + 8, which is the least that a component has.
+        (Raw::new(b"!", 0, b"").bytes(), 663),
+        (Raw::new(b"!", 0, b"").with_field(240).bytes(), 632),
+        // 590, offset 1 + 24, name 255 * 126.
+        (Raw::new(&[0x7E; 255], 0, b"").bytes(), 32_745),
+        // 590, len 1 + 44, type 16, offset 40, name 97, content 300 * 255: above 2^16.
+        (Raw::new(b"a", 0x10, &[0xFF; 300]).bytes(), 77_288),
+        // More than any component of the longest image that the driver takes, and of the longest there is: no sum passes 32 bits.
+        (vec![0xFF; 65_536], 16_710_660),
+        (vec![0xFF; 16_777_216], 4_278_189_060),
+    ];
+    let mut good = spans.iter().all(|(span, sum)| walk::sum(span) == *sum);
+    let region = Region { start: 0, end: 3072, align: 64 };
+    for (stated, served) in [(0, true), (2200, true), (2199, false), (2201, false)] {
+        let image = a_stating(stated, 2125);
+        good &= walk::judge(&image, region, 0).is_some() == served;
+        good &= strict::check(&image, region).err() == if served { None } else { Some((12, 0)) };
+    }
+    good &= big32(&edit::span(b"cal/12", 0xFFFF_FFFF, &[0; 100]), 16) == 2200;
+    println!("self-test: sums added up by hand: {}", if good { "the same" } else { "FAILED" });
+    good
+}
+
 /// Compares with itself: all agrees, and each fault is noticed.
 pub fn run() -> ExitCode {
     let Ok(this) = env::current_exe() else {
@@ -144,6 +180,7 @@ pub fn run() -> ExitCode {
     let mut tally = Tally::new(None);
     listings::test(&words(&["bench-image"]), 1, &mut tally);
     good = good && !tally.failures.is_empty();
+    good &= sums_by_hand();
     good &= partial_runs(&right);
     good &= left_out(&probe, &list);
     println!("self-test: {}", if good { "good" } else { "FAILED" });

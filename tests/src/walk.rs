@@ -1,4 +1,7 @@
 //! Document 01, "Components and the two walks": the header judge, and the plain walk, step, listing and lookup.
+//! A stated checksum is judged by request 5 of document 02.
+
+use std::ops::Range;
 
 use crate::bytes::big32;
 use crate::master::Region;
@@ -10,6 +13,7 @@ pub const LARCHIVE: &[u8; 8] = b"LARCHIVE";
 pub struct Component {
     pub place: usize,
     pub kind: u32,
+    pub checksum: u32,
     pub name: Vec<u8>,
     pub content: usize,
     pub end: usize,
@@ -20,8 +24,27 @@ pub fn carries(image: &[u8], region: Region, place: usize) -> bool {
     place + 8 <= region.end && &image[place..place + 8] == LARCHIVE
 }
 
+/// Where the checksum stands in a header.
+pub const CHECKSUM: Range<usize> = 16..20;
+
+/// The sum of a span: all its bytes, the four checksum bytes counted as zero, as a 32-bit number.
+pub fn sum(span: &[u8]) -> u32 {
+    let counted = span.iter().enumerate().filter(|(at, _)| !CHECKSUM.contains(at));
+    counted.fold(0, |sum: u32, (_, byte)| sum.wrapping_add(*byte as u32))
+}
+
 /// The component at a place that carries the magic and has a well-formed header.
 pub fn judge(image: &[u8], region: Region, place: usize) -> Option<Component> {
+    let component = formed(image, region, place)?;
+    // A field of 0 states no sum.
+    if component.checksum != 0 && component.checksum != sum(&image[place..component.end]) {
+        return None;
+    }
+    Some(component)
+}
+
+/// The component at a place whose header is well formed but for its checksum, which is not judged.
+pub fn formed(image: &[u8], region: Region, place: usize) -> Option<Component> {
     if !carries(image, region, place) {
         return None;
     }
@@ -30,6 +53,7 @@ pub fn judge(image: &[u8], region: Region, place: usize) -> Option<Component> {
     }
     let len = big32(image, place + 8) as usize;
     let kind = big32(image, place + 12);
+    let checksum = big32(image, place + CHECKSUM.start);
     let offset = big32(image, place + 20) as usize;
     if offset < 40 || offset > 280 || (offset - 24) % 16 != 0 {
         return None;
@@ -49,7 +73,7 @@ pub fn judge(image: &[u8], region: Region, place: usize) -> Option<Component> {
     if field[zero..].iter().any(|byte| *byte != 0) {
         return None;
     }
-    Some(Component { place, kind, name: field[..zero].to_vec(), content: place + offset, end })
+    Some(Component { place, kind, checksum, name: field[..zero].to_vec(), content: place + offset, end })
 }
 
 /// The component at a place that a caller names, judged anew: none where the number is no place of the region.
