@@ -3,13 +3,14 @@
 use crate::answers::{compare, counted};
 use crate::edits::{carried_out, Request, ADD, EDITS, REMOVE, REPLACE};
 use crate::images::{blank, framed, put, put_whole};
+use crate::sums::state;
 use crate::timing::{CALLS, SIDES};
 use crate::{ours, plain};
 use std::ops::Range;
 use std::sync::atomic::{AtomicUsize, Ordering};
 
 // Fewest answers that are held to their numbers.
-pub const FLOOR: usize = 518;
+pub const FLOOR: usize = 1_082;
 
 static HELD: AtomicUsize = AtomicUsize::new(0);
 
@@ -232,10 +233,11 @@ fn counts() -> usize {
     unmet
 }
 
-// The image with a component written over a slot, and 0xFF after it.
-fn written(image: &[u8], slot: Range<usize>, name: &[u8], kind: u32, content: &[u8]) -> Vec<u8> {
+// The image with a component written over a slot, which states the sum, and 0xFF after it.
+fn written(image: &[u8], slot: Range<usize>, name: &[u8], kind: u32, content: &[u8], sum: u32) -> Vec<u8> {
     let mut after = cleared(image, slot.clone());
     put_whole(&mut after, slot.start, name, kind, content);
+    state(&mut after, slot.start, sum);
     after
 }
 
@@ -261,16 +263,133 @@ fn hold_edit(image: &[u8], edit: usize, name: &[u8], content: &[u8], expected: u
     differing + 1
 }
 
-// Bench image A of document 01, and what it says of edits.
-fn edits_of_a() -> usize {
+// Bench image A of document 01. No sums are stated.
+fn bench_image() -> Vec<u8> {
     let mut a = blank(4096, 1024, 64, 0, 0xFF);
     put_whole(&mut a, 0, b"cal/12", u32::MAX, &[0; 100]);
     put_whole(&mut a, 192, b"cal/13", u32::MAX, &[0; 24]);
+    a
+}
+
+// The same with sums.
+fn summed(twelve: u32, thirteen: u32) -> Vec<u8> {
+    let mut a = bench_image();
+    state(&mut a, 0, twelve);
+    state(&mut a, 192, thirteen);
+    a
+}
+
+// Asks the calls that the five do not reach: what a plain and a guarded step from 0 take, how long the name and the content at 0 are, and how long
+// what the lookups of cal/12 give.
+fn hold_parts(image: &[u8], answers: [u64; 6]) -> usize {
+    let name = b"cal/12";
+    let steps = [ours::plain_step(image, 0), ours::guarded_step(image, 0)];
+    let parts =
+        [ours::name_at(image, 0), ours::content_at(image, 0), ours::plain_lookup(image, name), ours::guarded_lookup(image, name)];
+    let unmet = [&steps[..], &parts].concat().iter().zip(answers).filter(|(&a, b)| a != *b).count();
+    if unmet > 0 {
+        println!("UNMET: steps and parts at 0: {steps:?}, {parts:?}, and {answers:?} expected");
+    }
+    HELD.fetch_add(answers.len() - unmet, Ordering::Relaxed);
+    unmet
+}
+
+// What bench image A answers with sums. Of cal/12 it is 2200: 590 of the magic, 100, 1020, 40, and 450 of the name; of cal/13 2125.
+fn sums_of_a() -> usize {
+    let (none, at_first) = (refused(10, 0), refused(12, 0));
+    let mut unmet = 0;
+    for [twelve, thirteen] in [[2200, 2125], [2200, 0], [0, 2125], [0, 0]] {
+        let image = summed(twelve, thirteen);
+        unmet += hold("right sums", &image, b"cal/12", at(2, 0));
+        unmet += hold("right sums", &image, b"cal/13", at(2, 192));
+        unmet += hold_parts(&image, [0, 0, 6, 100, 100, 100]);
+    }
+    // One more or less, the four bytes turned round or moved up, their own sum (of 8 and 152) added, and 16 bits alone.
+    for wrong in [2199, 2201, 1, u32::MAX, 2200 + 255, 2200 + 256, 2200 + 65_536, 2200 + (1 << 24), 0x9808_0000, 2200 << 16, 2360]
+    {
+        let image = summed(wrong, 2125);
+        unmet += hold("a wrong sum", &image, b"cal/12", [1, 1, none, none, at_first]);
+        unmet += hold("a wrong sum", &image, b"cal/13", [1, 1, 192, 192, at_first]);
+        unmet += hold_parts(&image, [192, 192, 0, 0, 0, 0]);
+        for edit in [ADD, REPLACE, REMOVE] {
+            unmet += hold_edit(&image, edit, b"cal/13", b"", at_first, None);
+        }
+    }
+    for wrong in [2124, 2126] {
+        unmet += hold("a wrong sum", &summed(2200, wrong), b"cal/12", [1, 1, 0, 0, refused(12, 192)]);
+        unmet += hold("a wrong sum", &summed(2200, wrong), b"cal/13", [1, 1, none, none, refused(12, 192)]);
+        unmet += hold("wrong sums", &summed(2201, wrong), b"cal/13", [0, 0, none, none, at_first]);
+    }
+    // With cal/12's name made cal/13 its sum is 2201. Where it states another, cal/13 is borne once.
+    for (sum, places, strict) in [(2201, [0, refused(11, 0)], refused(11, 0)), (2200, [192, 192], at_first)] {
+        let mut twice = summed(sum, 2125);
+        twice[29] = b'3';
+        let listed = if sum == 2201 { 2 } else { 1 };
+        unmet += hold("twice", &twice, b"cal/13", [listed, listed, places[0], places[1], strict]);
+    }
+    unmet + sums_of_500()
+}
+
+// With cal/12's len made 500 its span goes to 540, and holds cal/13. Its sum is 90,150 where cal/13 states none; else the bytes of what cal/13
+// states are added.
+fn sums_of_500() -> usize {
+    let (none, inside, at_first) = (refused(10, 0), refused(12, 192), refused(12, 0));
+    let mut unmet = 0;
+    // The sums; how many components the listings have; the places of cal/12 and cal/13 by both lookups; and the strict check.
+    let cases = [
+        ([90_150, 0], [1, 1], [0, none], [none, 192], inside),
+        ([0, 0], [1, 1], [0, none], [none, 192], inside),
+        ([90_151, 0], [1, 1], [none, none], [192, 192], at_first),
+        ([90_149, 0], [1, 1], [none, none], [192, 192], at_first),
+        ([90_235, 2125], [1, 1], [0, none], [none, 192], inside),
+        ([90_150, 2125], [1, 1], [none, none], [192, 192], at_first),
+        ([90_236, 2126], [1, 0], [0, none], [none, none], inside),
+        ([90_235, 2126], [0, 0], [none, none], [none, none], at_first),
+    ];
+    for (sums, listed, twelve, thirteen, strict) in cases {
+        let mut image = summed(sums[0], sums[1]);
+        image[8..12].copy_from_slice(&500u32.to_be_bytes());
+        unmet += hold("len 500", &image, b"cal/12", [listed[0], listed[1], twelve[0], twelve[1], strict]);
+        unmet += hold("len 500", &image, b"cal/13", [listed[0], listed[1], thirteen[0], thirteen[1], strict]);
+        for edit in [ADD, REPLACE, REMOVE] {
+            unmet += hold_edit(&image, edit, b"cal/12", b"", strict, None);
+        }
+    }
+    unmet
+}
+
+// One component of 0xFF bytes fills the largest region, up to the last 36 bytes of 16,777,216: 255 times 16,777,140, and 590 of the magic, 690 of
+// the length, 40 of the offset and 313 of the name; 80 of the type where it is added.
+fn largest_sum() -> usize {
+    let mut unmet = 0;
+    for align in [16, 64, WIDE] {
+        let free = blank(MOST, 36, align, 0, 0xFF);
+        let mut image = free.clone();
+        put(&mut image, 0, b"all", 16_777_140);
+        for (sum, good) in [(4_278_172_333, true), (0, true), (4_278_172_332, false), (4_278_172_334, false), (u32::MAX, false)] {
+            state(&mut image, 0, sum);
+            let (none, astray) = (refused(10, 0), refused(12, 0));
+            unmet += hold("largest", &image, b"all", if good { at(1, 0) } else { [0, 0, none, none, astray] });
+        }
+        let content = vec![0xFF; 16_777_140];
+        let added = written(&free, 0..MOST - 36, b"all", KIND, &content, 4_278_172_413);
+        unmet += hold_edit(&free, ADD, b"all", &content, 0, Some(added.clone()));
+        unmet += hold("largest, added", &added, b"all", at(1, 0));
+    }
+    unmet
+}
+
+// What document 01 says of edits of bench image A. With sums stated before it is the same: only the component that is written states another.
+fn edits_of_a() -> usize {
+    edits_of(bench_image()) + edits_of(summed(2200, 2125)) + edits_of(summed(0, 2125))
+}
+
+fn edits_of(a: Vec<u8>) -> usize {
     let of = |n: usize| vec![7; n];
     let magic_at = |n: usize| [&vec![7; n], &b"LARCHIVE"[..]].concat();
-    let new = |slot: Range<usize>, name: &[u8], content: &[u8]| Some(written(&a, slot, name, KIND, content));
-    let whole = Some(written(&a, 0..192, b"cal/12", u32::MAX, &of(152)));
-    let short = Some(written(&a, 192..3072, b"cal/13", u32::MAX, b""));
+    let new = |slot: Range<usize>, name: &[u8], content: &[u8], sum| Some(written(&a, slot, name, KIND, content, sum));
+    let whole = Some(written(&a, 0..192, b"cal/12", u32::MAX, &of(152), 3316));
+    let short = Some(written(&a, 192..3072, b"cal/13", u32::MAX, b"", 2101));
     let long = [b'n'; 256];
     let hold = |edit, name: &[u8], content: &[u8], expected, after| hold_edit(&a, edit, name, content, expected, after);
     let mut unmet = 0;
@@ -282,12 +401,12 @@ fn edits_of_a() -> usize {
     unmet += hold(REMOVE, b"cal/12", b"", 0, Some(cleared(&a, 0..192)));
     unmet += hold(REMOVE, b"cal/13", b"", 192, Some(cleared(&a, 192..3072)));
     unmet += hold(REMOVE, b"cal/1", b"", refused(10, 0), None);
-    unmet += hold(ADD, b"log", &of(2776), 256, new(256..3072, b"log", &of(2776)));
+    unmet += hold(ADD, b"log", &of(2776), 256, new(256..3072, b"log", &of(2776), 20_690));
     unmet += hold(ADD, b"log", &of(2777), refused(17, 0), None);
     unmet += hold(ADD, b"log", &magic_at(24), refused(16, 0), None);
-    unmet += hold(ADD, b"log", &magic_at(25), 256, new(256..3072, b"log", &magic_at(25)));
-    unmet += hold(ADD, b"xxxxxxxxLARCHIVE", b"", 256, new(256..3072, b"xxxxxxxxLARCHIVE", b""));
-    unmet += hold(ADD, &long[1..], &of(9), 256, new(256..3072, &long[1..], &of(9)));
+    unmet += hold(ADD, b"log", &magic_at(25), 256, new(256..3072, b"log", &magic_at(25), 1830));
+    unmet += hold(ADD, b"xxxxxxxxLARCHIVE", b"", 256, new(256..3072, b"xxxxxxxxLARCHIVE", b"", 2276));
+    unmet += hold(ADD, &long[1..], &of(9), 256, new(256..3072, &long[1..], &of(9), 28_817));
     for name in [&b""[..], &long, b"a b", b"a\x7F", b"a\0"] {
         unmet += hold(ADD, name, b"", refused(14, 0), None);
     }
@@ -298,6 +417,7 @@ fn edits_of_a() -> usize {
     // A name that two components have, and the magic where no component is.
     let (mut twice, mut stray) = (a.clone(), a.clone());
     twice[29] = b'3';
+    state(&mut twice, 0, 2201);
     stray[2048..][..8].copy_from_slice(b"LARCHIVE");
     for edit in [ADD, REPLACE, REMOVE] {
         unmet += hold_edit(&twice, edit, b"cal/13", b"", refused(11, 0), None);
@@ -312,8 +432,8 @@ fn edits_at_offset() -> usize {
     put_whole(&mut image, 128, b"cal/12", 3, &[0; 100]);
     let mut stray = image.clone();
     stray[1024..][..8].copy_from_slice(b"LARCHIVE");
-    let added = Some(written(&image, 320..3072, b"log", KIND, b"new"));
-    let replaced = Some(written(&image, 128..3072, b"cal/12", 3, b"new"));
+    let added = Some(written(&image, 320..3072, b"log", KIND, b"new", 1365));
+    let replaced = Some(written(&image, 128..3072, b"cal/12", 3, b"new", 1416));
     hold_edit(&image, ADD, b"log", b"new", 320, added)
         + hold_edit(&image, REPLACE, b"cal/12", b"new", 128, replaced)
         + hold_edit(&image, REMOVE, b"cal/12", b"", 128, Some(cleared(&image, 128..3072)))
@@ -334,8 +454,8 @@ fn edits_at_count() -> usize {
     ] {
         let image = crowd(number, 4096);
         let (slot, free) = (8192..12_288, number * 4096..MOST - 1024);
-        let added = (place != thirteen).then(|| written(&image, free, b"new", KIND, b"new"));
-        let replaced = (others != thirteen).then(|| written(&image, slot.clone(), b"c2", 3, b"new"));
+        let added = (place != thirteen).then(|| written(&image, free, b"new", KIND, b"new", 1373));
+        let replaced = (others != thirteen).then(|| written(&image, slot.clone(), b"c2", 3, b"new", 1115));
         let removed = (others != thirteen).then(|| cleared(&image, slot));
         unmet += hold_edit(&image, ADD, b"new", b"new", place, added);
         unmet += hold_edit(&image, REPLACE, b"c2", b"new", others, replaced);
@@ -356,7 +476,7 @@ fn edits_when_full() -> usize {
     unmet += hold_edit(&full, ADD, b"new", &vec![7; MOST], thirteen, None);
     unmet += hold_edit(&room, ADD, b"new", &magic, refused(16, 0), None);
     unmet += hold_edit(&room, ADD, b"new", &vec![7; MOST], refused(17, 0), None);
-    let added = written(&room, 4_190_208..MOST - 1024, b"new", KIND, b"");
+    let added = written(&room, 4_190_208..MOST - 1024, b"new", KIND, b"", 1040);
     unmet += hold("added", &added, b"new", at(1_024, 4_190_208));
     unmet += hold_edit(&added, ADD, b"more", b"", thirteen, None);
     put_whole(&mut full, 1_023 * 4096, b"c0", 3, &[0; 16]);
@@ -365,5 +485,6 @@ fn edits_when_full() -> usize {
 
 // How many answers at the boundaries are not what they must be, or differ from plain Rust.
 pub fn unmet() -> usize {
-    lengths() + pointers() + wide() + aligns() + counts() + edits_of_a() + edits_at_offset() + edits_at_count()
+    let walks = lengths() + pointers() + wide() + aligns() + counts() + sums_of_a() + largest_sum();
+    walks + edits_of_a() + edits_at_offset() + edits_at_count()
 }

@@ -1,8 +1,10 @@
 // Times the strict check where it has most to do: as many components as an image may have, with names of which no two share a digest, and with
-// long names that all share one. The check and the guarded listing of the same image, ours and plain Rust's, take turns.
+// long names that all share one. The check and the guarded listing of the same image, ours and plain Rust's, take turns. Where long names share
+// a digest the check is timed with right sums, too: every name is compared with every other, and no span is to be summed again for that.
 use crate::images::{blank, name_of, put, Random, BOOTBLOCK};
 use crate::plain::{digest, name_fits, LIMIT};
-use crate::timing::{Call, SIDES};
+use crate::sums::state_off;
+use crate::timing::{Call, GUARDED_LISTING, SIDES, STRICT_CHECK};
 use std::hint::black_box;
 use std::time::Instant;
 
@@ -13,8 +15,8 @@ const SMALL: Size = (512 << 10, "512 KiB");
 const LONGEST: usize = 255;
 // The offset of a component with the longest name.
 const OFFSET: usize = 280;
-const LISTING: [Call; 2] = SIDES[1];
-const CHECK: [Call; 2] = SIDES[4];
+const LISTING: [Call; 2] = SIDES[GUARDED_LISTING];
+const CHECK: [Call; 2] = SIDES[STRICT_CHECK];
 
 // The most that the check may take: in times of plain Rust's check, and of our guarded listing.
 type Goals = [Option<f64>; 2];
@@ -29,6 +31,10 @@ pub struct Case {
     image: Vec<u8>,
     // the same, but the last component has the first one's name: refused by 11
     twice: Vec<u8>,
+    // the image with the right sum in each component, where it is timed
+    summed: Option<Vec<u8>>,
+    // where the last component stands
+    last: usize,
 }
 
 // A short name made as long as may be.
@@ -83,9 +89,15 @@ fn case(names: &str, goals: Goals, (length, size): Size, align: usize, name: imp
     for k in 0..LIMIT {
         put(&mut image, k * slot, &name(k), len);
     }
+    let last = (LIMIT - 1) * slot;
     let mut twice = image.clone();
-    put(&mut twice, (LIMIT - 1) * slot, &name(0), len);
-    Case { label: format!("{names}; {size}, align {align}"), goals, image, twice }
+    put(&mut twice, last, &name(0), len);
+    let summed = (goals == SHARED).then(|| {
+        let mut summed = image.clone();
+        (0..LIMIT).for_each(|k| state_off(&mut summed, k * slot, 0));
+        summed
+    });
+    Case { label: format!("{names}; {size}, align {align}"), goals, image, twice, summed, last }
 }
 
 pub fn cases() -> Vec<Case> {
@@ -110,13 +122,42 @@ pub fn cases() -> Vec<Case> {
 // How many checks of the cases answer something else than is written out, on either side; and how many there are.
 pub fn differing(cases: &[Case]) -> (usize, usize) {
     let (mut differing, mut number) = (0, 0);
-    for Case { image, twice, .. } in cases {
-        for (image, known) in [(image, LIMIT as u64), (twice, 11 << 32)] {
-            differing += usize::from(CHECK.iter().any(|check| check(image, b"") != known));
-            number += 1;
+    let mut judge = |image: &[u8], known: u64| {
+        differing += usize::from(CHECK.iter().any(|check| check(image, b"") != known));
+        number += 1;
+    };
+    for Case { image, twice, summed, last, .. } in cases {
+        judge(image, LIMIT as u64);
+        judge(twice, 11 << 32);
+        if let Some(summed) = summed {
+            judge(summed, LIMIT as u64);
+            let mut wrong = summed.clone();
+            state_off(&mut wrong, *last, 1);
+            judge(&wrong, (12 << 32) + *last as u64);
         }
     }
     (differing, number)
+}
+
+// The least time of each call in microseconds; they take turns.
+fn least<const N: usize>(calls: [(Call, &[u8]); N], runs: usize) -> [f64; N] {
+    let mut least = [f64::INFINITY; N];
+    for k in 0..N * runs {
+        let side = (k + k / N) % N;
+        let (call, image) = calls[side];
+        let began = Instant::now();
+        black_box(call(black_box(image), b""));
+        least[side] = least[side].min(began.elapsed().as_nanos() as f64 / 1000.0);
+    }
+    least
+}
+
+fn judged(quotient: f64, goal: Option<f64>) -> String {
+    match goal {
+        Some(most) if quotient > most => format!("{most:.2} MISSED"),
+        Some(most) => format!("{most:.2} met"),
+        None => String::new(),
+    }
 }
 
 // The table, in microseconds. Answers how many lines of it miss a goal, and how many there are.
@@ -125,29 +166,38 @@ pub fn report(cases: &[Case], runs: usize) -> (usize, usize) {
     println!("| names | strict check | plain Rust | quotient | goal | guarded listing | check by listing | goal |");
     println!("|---|---|---|---|---|---|---|---|");
     for Case { label, goals, image, .. } in cases {
-        let calls = [CHECK[0], CHECK[1], LISTING[0]];
-        let mut least = [f64::INFINITY; 3];
-        for k in 0..3 * runs {
-            let side = (k + k / 3) % 3;
-            let began = Instant::now();
-            black_box(calls[side](black_box(image), b""));
-            least[side] = least[side].min(began.elapsed().as_nanos() as f64 / 1000.0);
-        }
-        let [ours, plain, listing] = least;
+        let [ours, plain, listing] = least([(CHECK[0], image), (CHECK[1], image), (LISTING[0], image)], runs);
         let quotients = [ours / plain, ours / listing];
-        let judged = |at: usize| match goals[at] {
-            Some(most) if quotients[at] > most => format!("{most:.2} MISSED"),
-            Some(most) => format!("{most:.2} met"),
-            None => String::new(),
-        };
-        missed += usize::from((0..2).any(|at| judged(at).ends_with("MISSED")));
+        let judged = [judged(quotients[0], goals[0]), judged(quotients[1], goals[1])];
+        missed += usize::from(judged.iter().any(|goal| goal.ends_with("MISSED")));
         println!(
             "| {label} | {ours:.0} | {plain:.0} | {:.2} | {} | {listing:.0} | {:.2} | {} |",
-            quotients[0],
-            judged(0),
-            quotients[1],
-            judged(1)
+            quotients[0], judged[0], quotients[1], judged[1]
         );
     }
     (missed, cases.len())
+}
+
+// The same where right sums are stated, beside the times without them.
+pub fn report_summed(cases: &[Case], runs: usize) -> (usize, usize) {
+    let (mut missed, mut lines) = (0, 0);
+    println!("| names, right sums | strict check | plain Rust | quotient | goal | without sums | plain Rust without | the sums | of plain Rust |");
+    println!("|---|---|---|---|---|---|---|---|---|");
+    for Case { label, goals, image, summed, .. } in cases {
+        let Some(summed) = summed else {
+            continue;
+        };
+        let calls = [(CHECK[0], &summed[..]), (CHECK[1], summed), (CHECK[0], image), (CHECK[1], image)];
+        let [ours, plain, bare, bare_plain] = least(calls, runs);
+        let goal = judged(ours / plain, goals[0]);
+        missed += usize::from(goal.ends_with("MISSED"));
+        lines += 1;
+        println!(
+            "| {label} | {ours:.0} | {plain:.0} | {:.2} | {goal} | {bare:.0} | {bare_plain:.0} | {:.0} | {:.0} |",
+            ours / plain,
+            ours - bare,
+            plain - bare_plain
+        );
+    }
+    (missed, lines)
 }

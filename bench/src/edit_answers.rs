@@ -1,8 +1,10 @@
-// Compares the edits of both sides on small images, whole and damaged, with names, contents and types at random, so that every outcome occurs.
+// Compares the edits of both sides on small images, whole and damaged, with names, contents and types at random, so that every outcome occurs; and
+// with right sums, wrong ones and none.
 use crate::answers::spoil;
-use crate::edits::{carried_out, Request, EDITS};
+use crate::edits::{carried_out, Request, EDITS, REMOVE};
 use crate::images::{blank, put_whole, Random};
 use crate::plain::LIMIT;
+use crate::sums::{met, right_sum, state_all, state_some, stated_at, wrong, Seen, Stated, WRONG};
 
 // What an edit can come to but for refusals 1 to 8: done, which is 0, or a refusal.
 const OUTCOMES: [&[usize]; 3] = [&[0, 11, 12, 13, 14, 15, 16, 17], &[0, 10, 11, 12, 13, 16, 17], &[0, 10, 11, 12, 13]];
@@ -10,6 +12,8 @@ const OUTCOMES: [&[usize]; 3] = [&[0, 11, 12, 13, 14, 15, 16, 17], &[0, 10, 11, 
 const FLOOR: usize = 100;
 // How many edits are carried out on an image, one after the other.
 const EACH: usize = 4;
+// What else must occur as often, for each edit.
+const OCCURS: [&str; 4] = ["done beside a right sum", "beside none", "beside both", "refused for a wrong sum"];
 
 // Few names, so that they meet; some are as long as they may be, or unfit.
 fn some_name(random: &mut Random) -> Vec<u8> {
@@ -57,6 +61,7 @@ fn some_image(random: &mut Random) -> (Vec<u8>, usize) {
     let end = start + 48 * number + (2 + random.below(30)) * align + random.below(align);
     let mut image = blank(end + bootblock, bootblock, align, start, [0, 0xFF][random.below(2)]);
     let mut place = start;
+    let mut taken = Vec::new();
     for k in 0..number {
         let twice = k > 0 && random.below(50 * number) == 0;
         let name = if many { format!("c{}", k - usize::from(twice)).into_bytes() } else { some_name(random) };
@@ -67,8 +72,17 @@ fn some_image(random: &mut Random) -> (Vec<u8>, usize) {
         }
         let content = random.bytes(length);
         put_whole(&mut image, place, &name, random.next() as u32, &content);
+        taken.push(place);
         let apart = if many { 0 } else { random.below(3) * align };
         place += span.next_multiple_of(align) + apart;
+    }
+    // Most images state right sums or none; in one of ten, one is wrong.
+    let moods = [&[Stated::Nothing][..], &[Stated::Right], &[Stated::Right, Stated::Nothing]];
+    let mood = moods[random.below(moods.len())];
+    state_all(&mut image, &mut taken, mood, random);
+    if !taken.is_empty() && random.below(10) == 0 {
+        let place = taken[random.below(taken.len())];
+        state_some(&mut image, place, Stated::Wrong, random);
     }
     match random.below(8) {
         0 => spoil(&mut image, random, 1, align, start, end),
@@ -87,16 +101,32 @@ pub fn differing(images: usize) -> (usize, usize) {
     let mut random = Random::new(17);
     let mut copy = Vec::new();
     let mut seen = [[0; 18]; EDITS.len()];
+    let (mut occurs, mut wrongs) = (EDITS.map(|_| Seen::new(OCCURS)), Seen::new(WRONG));
     for _ in 0..images {
         let (mut image, align) = some_image(&mut random);
         for _ in 0..EACH {
             let edit = random.below(EDITS.len());
             let request = some_request(&mut random, align);
+            let before = met(&image);
             let (answer, agree) = carried_out(edit, &mut image, &mut copy, &request);
-            differing += usize::from(!agree);
-            seen[edit][(answer >> 32) as usize % 18] += 1;
+            let (refusal, place) = ((answer >> 32) as usize, answer as u32 as usize);
+            let done = refusal == 0;
+            // What is written states the sum of its bytes.
+            let unsummed = done && edit != REMOVE && right_sum(&image, place) != Some(stated_at(&image, place));
+            if unsummed {
+                println!("DIFFER: {}, {} bytes: the sum at {place} is not the right one", EDITS[edit], image.len());
+            }
+            differing += usize::from(!agree || unsummed);
+            seen[edit][refusal % 18] += 1;
+            let beside = |stated| done && before.iter().any(|m| m.stated == stated);
+            let (right, nothing) = (beside(Stated::Right), beside(Stated::Nothing));
+            let astray = before.iter().find(|m| refusal == 12 && m.place == place && m.stated == Stated::Wrong);
+            occurs[edit].note([right, nothing, right && nothing, astray.is_some()]);
+            wrongs.note(wrong(astray.into_iter()));
         }
     }
+    differing += EDITS.iter().zip(occurs).map(|(edit, occurs)| occurs.seldom(&format!("sums, {edit}"), FLOOR)).sum::<usize>();
+    differing += wrongs.seldom("wrong sums in the edits", FLOOR);
     for ((edit, seen), outcomes) in EDITS.iter().zip(seen).zip(OUTCOMES) {
         for &outcome in outcomes.iter().filter(|&&outcome| seen[outcome] < FLOOR) {
             println!("SELDOM: {edit}, outcome {outcome}: {} times, and at least {FLOOR} wanted", seen[outcome]);

@@ -1,8 +1,10 @@
 // Times the edits against plain Rust at 16 MiB. The sides take turns in the same memory, and the image is restored before each call: with an
-// image for each side the quotients moved by a quarter from run to run. Beside both stands the bare writing of the slot, by memcpy and memset.
+// image for each side the quotients moved by a quarter from run to run. Beside both stands the bare writing of the slot, by memcpy and memset,
+// and the same with the sum of what is copied. Only in the last image do components state sums before.
 use crate::edits::{carried_out, Request, ADD, EDITS, REMOVE, REPLACE, SIDES};
 use crate::images::{blank, name_of, put_whole, Random, BOOTBLOCK};
-use crate::plain::LIMIT;
+use crate::plain::{self, LIMIT};
+use crate::sums::state_off;
 use std::hint::black_box;
 use std::ops::Range;
 use std::time::Instant;
@@ -12,6 +14,7 @@ const LENGTH: usize = 16 << 20;
 const END: usize = LENGTH - BOOTBLOCK;
 // So long that as many of them as an image may have components fit the region.
 const SLOT: usize = END / LIMIT / 64 * 64;
+const HALF: usize = 8_192;
 const SMALL: usize = 4_096;
 const LARGE: usize = 15 << 20;
 
@@ -57,6 +60,12 @@ fn long_name() -> Case {
     case
 }
 
+// The same, with the right sum in each of these components.
+fn summed(mut case: Case, spans: &[Range<usize>]) -> Case {
+    spans.iter().for_each(|span| state_off(&mut case.image, span.start, 0));
+    case
+}
+
 pub fn cases() -> Vec<Case> {
     let slots = |number: usize, from: usize, apart: usize, span: usize| -> Vec<Range<usize>> {
         (0..number).map(|k| from + k * apart..from + k * apart + span).collect()
@@ -66,6 +75,7 @@ pub fn cases() -> Vec<Case> {
     gap.insert(0, 0..SMALL);
     gap.push(full * SLOT..full * SLOT + SMALL);
     let large = [0..LARGE, LARGE..LARGE + SMALL];
+    let crowd = slots(LIMIT, 0, SLOT, HALF);
     vec![
         case(
             &format!("full, {full} components"),
@@ -80,6 +90,7 @@ pub fn cases() -> Vec<Case> {
         case("15 MiB free", &large[1..], LARGE, Some(0..LARGE), None),
         case("15 MiB held", &large, LARGE, None, Some((0, LARGE))),
         long_name(),
+        summed(case("1,024 components, right sums", &crowd, HALF, None, Some((LIMIT - 1, END))), &crowd),
     ]
 }
 
@@ -97,13 +108,14 @@ pub fn differing(cases: &[Case]) -> (usize, usize) {
     (differing, number)
 }
 
-// Writes what the edit writes, but for the header and the name.
-fn write_bare(image: &mut [u8], Timed { edit, request, slot, .. }: &Timed) -> u64 {
+// Writes what the edit writes, but for the header and the name; and sums the content where this is asked for.
+fn write_bare(image: &mut [u8], Timed { edit, request, slot, .. }: &Timed, summing: bool) -> u64 {
     let held = if *edit == REMOVE || slot.is_empty() { &[] } else { &request.content[..] };
     let (content, rest) = image[slot.clone()].split_at_mut(held.len());
+    let sum = if summing { plain::sum(held) } else { 0 };
     content.copy_from_slice(held);
     rest.fill(0xFF);
-    0
+    sum.into()
 }
 
 // The table, in microseconds. Answers how many lines of it miss the goal, and how many there are.
@@ -111,33 +123,33 @@ pub fn report(cases: &[Case], runs: usize) -> (usize, usize) {
     let (mut missed, mut lines) = (0, 0);
     let mut work = vec![0; LENGTH];
     println!(
-        "| image | edit | ours | plain Rust | quotient | bare memcpy and memset | ours beyond it | plain Rust beyond it | goal |"
+        "| image | edit | ours | plain Rust | quotient | bare memcpy and memset | with the sum | ours beyond it | plain Rust beyond it | goal |"
     );
-    println!("|---|---|---|---|---|---|---|---|---|");
+    println!("|---|---|---|---|---|---|---|---|---|---|");
     for case in cases {
         for timed in &case.timed {
-            let mut least = [f64::INFINITY; 3];
-            for k in 0..3 * runs {
-                let side = (k + k / 3) % 3;
+            let mut least = [f64::INFINITY; 4];
+            for k in 0..4 * runs {
+                let side = (k + k / 4) % 4;
                 work.copy_from_slice(&case.image);
                 let began = Instant::now();
                 black_box(match SIDES[timed.edit].get(side) {
                     Some(edit) => edit(black_box(&mut work), &timed.request),
-                    None => write_bare(black_box(&mut work), timed),
+                    None => write_bare(black_box(&mut work), timed, side == 3),
                 });
                 least[side] = least[side].min(began.elapsed().as_nanos() as f64 / 1000.0);
             }
-            let [ours, plain, bare] = least;
+            let [ours, plain, bare, summed] = least;
             let goal = if ours / plain > QUOTIENT { "MISSED" } else { "met" };
             missed += usize::from(goal != "met");
             lines += 1;
             println!(
-                "| {} | {} | {ours:.0} | {plain:.0} | {:.2} | {bare:.0} | {:.0} | {:.0} | {goal} |",
+                "| {} | {} | {ours:.0} | {plain:.0} | {:.2} | {bare:.0} | {summed:.0} | {:.0} | {:.0} | {goal} |",
                 case.label,
                 EDITS[timed.edit],
                 ours / plain,
-                ours - bare,
-                plain - bare
+                ours - summed,
+                plain - summed
             );
         }
     }

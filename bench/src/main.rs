@@ -11,6 +11,8 @@ mod images;
 mod ours;
 mod plain;
 mod stack;
+mod sum_times;
+mod sums;
 mod timing;
 
 use std::process::ExitCode;
@@ -49,14 +51,15 @@ fn main() -> ExitCode {
         }
     };
     let mut differing = answers::special();
-    let labels: Vec<&str> = images::cases(1).iter().map(|case| case.label).collect();
+    let labels: Vec<(&str, &[usize])> = images::cases(1).iter().map(|case| (case.label, case.calls)).collect();
     let mut times = vec![[UNTIMED; CALLS.len()]; labels.len()];
     for (size, mib) in SIZES.into_iter().enumerate() {
         for (case, row) in images::cases(mib).into_iter().zip(&mut times) {
-            differing += answers::compare(case.label, &case.image, &case.name);
-            for (sides, times) in SIDES.into_iter().zip(row) {
+            differing += answers::compare_some(case.label, &case.image, &case.name, case.calls);
+            for &call in case.calls {
+                let least = &mut row[call].same[size];
                 for k in 0..runs {
-                    times.same[size] = lesser(times.same[size], both(sides, &[&case.image], &case.name, k));
+                    *least = lesser(*least, both(SIDES[call], &[&case.image], &case.name, k));
                 }
             }
         }
@@ -69,8 +72,9 @@ fn main() -> ExitCode {
                 let case = &cases[at];
                 memory.chunks_exact_mut(case.image.len()).for_each(|copy| copy.copy_from_slice(&case.image));
                 let images: Vec<&[u8]> = memory.chunks_exact(case.image.len()).collect();
-                for (sides, times) in SIDES.into_iter().zip(&mut *row) {
-                    times.turn[end] = lesser(times.turn[end], both(sides, &images, &case.name, k));
+                for &call in case.calls {
+                    let least = &mut row[call].turn[end];
+                    *least = lesser(*least, both(SIDES[call], &images, &case.name, k));
                 }
             }
         }
@@ -78,26 +82,31 @@ fn main() -> ExitCode {
     drop(memory);
     let (checks, edits) = (check_times::cases(), edit_times::cases());
     differing += answers::counted(check_times::differing(&checks)) + answers::counted(edit_times::differing(&edits));
+    differing += answers::counted(sum_times::differing());
     let missed = report(&labels, &times);
     let (slow_checks, check_lines) = check_times::report(&checks, runs);
+    let (slow_summed, summed_lines) = check_times::report_summed(&checks, runs);
     let (slow, lines) = edit_times::report(&edits, runs);
+    let (slow_sums, sum_lines) = sum_times::report(runs);
     println!("answers: {} compared, {differing} differ", answers::compared());
     println!(
         "goals at 16 MiB: {QUOTIENT} times plain Rust, {GROWTH} times the time at 1 MiB: missed by {missed} of {}",
-        labels.len() * CALLS.len()
+        labels.iter().map(|(_, calls)| calls.len()).sum::<usize>()
     );
     println!("strict check's goals with as many components as are allowed: missed by {slow_checks} of {check_lines}");
+    println!("strict check's goal where names share a digest and state right sums: missed by {slow_summed} of {summed_lines}");
     println!("edits' goal at 16 MiB: {} times plain Rust: missed by {slow} of {lines}", edit_times::QUOTIENT);
+    println!("the sum's goal: {} times plain Rust: missed by {slow_sums} of {sum_lines}", sum_times::QUOTIENT);
     ExitCode::from(u8::from(differing > 0))
 }
 
 // The table, in microseconds. Answers how many lines of it miss a goal.
-fn report(labels: &[&str], times: &[[Times; CALLS.len()]]) -> usize {
+fn report(labels: &[(&str, &[usize])], times: &[[Times; CALLS.len()]]) -> usize {
     let mut missed = 0;
     println!("| image | call | ours, 1 MiB | 4 MiB | 16 MiB | plain Rust, 16 MiB | quotients | growth | of plain Rust | goals |");
     println!("|---|---|---|---|---|---|---|---|---|---|");
-    for (label, row) in labels.iter().zip(times) {
-        for (call, t) in CALLS.iter().zip(row) {
+    for ((label, calls), row) in labels.iter().zip(times) {
+        for (call, t) in calls.iter().map(|&call| (CALLS[call], &row[call])) {
             let [one, four, all] = t.same.map(|[ours, _]| ours / 1000.0);
             let quotients = t.same.map(|[ours, plain]| ours / plain);
             let growth = [0, 1].map(|side| t.turn[1][side] / t.turn[0][side]);

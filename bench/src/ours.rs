@@ -6,6 +6,7 @@ extern "C" {
     fn bench_region(image: *const u8, length: usize) -> u64;
     fn bench_fmap(image: *const u8, length: usize) -> u64;
     fn bench_signatures(image: *const u8, length: usize) -> u64;
+    fn bench_sum(bytes: *const u8, length: usize) -> u64;
     fn bench_area(image: *const u8, length: usize, k: usize) -> u64;
     fn bench_area_name(image: *const u8, length: usize, place: usize) -> u64;
     fn bench_map_at(image: *const u8, length: usize, at: usize, size: usize, k: usize) -> u64;
@@ -29,7 +30,7 @@ extern "C" {
 
 // Each call asks nothing of its arguments but that they are slices.
 
-// The calls over an image, over an image and a number, and over an image and a name.
+// The calls over an image (or over any bytes), over an image and a number, and over an image and a name.
 macro_rules! safe {
     (image: $($call:ident $exported:ident),*) => {
         $(pub fn $call(image: &[u8]) -> u64 {
@@ -49,7 +50,7 @@ macro_rules! safe {
 }
 
 safe!(image: plain_count bench_plain_count, guarded_count bench_guarded_count, strict_count bench_strict_count);
-safe!(image: region bench_region, fmap bench_fmap, signatures bench_signatures);
+safe!(image: region bench_region, fmap bench_fmap, signatures bench_signatures, sum bench_sum);
 safe!(number: strict_place bench_strict_place, plain_step bench_plain_step, guarded_step bench_guarded_step);
 safe!(number: name_at bench_name_at, content_at bench_content_at, area bench_area, area_name bench_area_name);
 safe!(name: plain_place bench_plain_place, guarded_place bench_guarded_place);

@@ -1,4 +1,4 @@
-// The same algorithms in plain Rust: the master header, the two walks, the lookups, the strict check and the edits.
+// The same algorithms in plain Rust: the master header, sums, the two walks, the lookups, the strict check and the edits.
 // Written for speed and for reading, with the standard library alone; nothing here is proved.
 const MAGIC: &[u8; 8] = b"LARCHIVE";
 // How many components an image may have.
@@ -25,6 +25,14 @@ fn told(answer: Result<usize, Refusal>) -> u64 {
 
 fn be32(bytes: &[u8], at: usize) -> u32 {
     u32::from_be_bytes(bytes[at..at + 4].try_into().unwrap())
+}
+
+// The sum of all bytes, modulo 2^32. In blocks of a fixed length the compiler adds sixteen bytes by one instruction (psadbw on x86-64); one by
+// one it widens each to 32 bits first, and takes four times as long.
+pub fn sum(bytes: &[u8]) -> u32 {
+    let added = |total: u32, part: &[u8]| part.iter().fold(total, |t, &b| t.wrapping_add(b.into()));
+    let (blocks, rest) = bytes.as_chunks::<64>();
+    blocks.iter().fold(added(0, rest), |total, block| total.wrapping_add(added(0, block)))
 }
 
 // The bytes that hold the components, where they begin in the image, and the alignment of places.
@@ -72,7 +80,7 @@ fn region(image: &[u8]) -> Result<Region<'_>, Refusal> {
     Ok(Region { bytes, start, align })
 }
 
-// A well-formed component: its place in the region, its name, and the end of its span.
+// A component by its header's numbers: its place in the region, its name, and the end of its span. Whether its sum is right is asked apart.
 #[derive(Clone, Copy)]
 struct Component<'a> {
     place: usize,
@@ -102,7 +110,7 @@ impl<'a> Region<'a> {
         (from..stop).step_by(self.align).find(|&p| &self.bytes[p..p + 8] == MAGIC).unwrap_or(below)
     }
 
-    // The component at a place that carries the magic.
+    // The component at a place that carries the magic, its sum not looked at.
     fn component_at(&self, place: usize) -> Option<Component<'a>> {
         let part = &self.bytes[place..];
         if part.len() < 24 {
@@ -118,6 +126,13 @@ impl<'a> Region<'a> {
         Some(Component { place, name, end })
     }
 
+    // The component states no sum, or the right one: that of its span but for the four bytes that state it.
+    fn sum_fits(&self, component: &Component) -> bool {
+        let span = &self.bytes[component.place..component.end];
+        let stated = be32(span, 16);
+        stated == 0 || stated == sum(&span[..16]).wrapping_add(sum(&span[20..]))
+    }
+
     // The first place at or after a number, or else the region's end.
     fn onward(&self, n: usize) -> usize {
         n.next_multiple_of(self.align).min(self.bytes.len())
@@ -129,7 +144,8 @@ impl<'a> Region<'a> {
     }
 }
 
-// The components that a walk takes, one after the other.
+// One after the other, the components that the plain walk takes; or those that the guarded walk takes if their sums are right, of which no byte
+// is summed. It goes on behind a span whose sum is wrong, too: no later place in it carries the magic. The plain walk goes one place further there.
 struct Walk<'a> {
     region: &'a Region<'a>,
     guarded: bool,
@@ -144,7 +160,7 @@ impl<'a> Iterator for Walk<'a> {
         let length = region.bytes.len();
         let mut place = region.next_magic(self.at, length);
         while place < length {
-            let Some(component) = region.component_at(place) else {
+            let Some(component) = region.component_at(place).filter(|c| self.guarded || region.sum_fits(c)) else {
                 place = region.next_magic(place + region.align, length);
                 continue;
             };
@@ -162,7 +178,7 @@ impl<'a> Iterator for Walk<'a> {
 }
 
 fn count(guarded: bool, image: &[u8]) -> u64 {
-    told(region(image).map(|region| region.walk(guarded).count()))
+    told(region(image).map(|region| region.walk(guarded).filter(|c| !guarded || region.sum_fits(c)).count()))
 }
 
 pub fn plain_count(image: &[u8]) -> u64 {
@@ -175,7 +191,7 @@ pub fn guarded_count(image: &[u8]) -> u64 {
 
 fn find(guarded: bool, image: &[u8], name: &[u8]) -> Result<usize, Refusal> {
     let region = region(image)?;
-    let mut bearers = region.walk(guarded).filter(|c| c.name == name);
+    let mut bearers = region.walk(guarded).filter(|c| c.name == name && (!guarded || region.sum_fits(c)));
     match bearers.next() {
         None => refused(10),
         Some(_) if guarded && bearers.next().is_some() => refused(11),
@@ -205,7 +221,8 @@ pub fn digest(name: &[u8]) -> u32 {
     further(odd.iter().map(word).fold(pairs.iter().fold(0, two), further), last)
 }
 
-// The strict check of a region, in one pass: a place with the magic that is ill formed, or that lies in a span, is astray. Then the names are
+// The strict check of a region, in one pass: a place with the magic that is ill formed, or that lies in a span, is astray. Each span that states a
+// sum is summed once, before it is searched: where the sum is wrong it is the span's own place that is astray. Then the names are
 // compared with the later ones, from the last component down, by their digests, which the pass takes. A digest leaves a mark in a table: 0 stands
 // for none, 255 for different ones. Where no later digest left its mark there, none is the same. The names are stored, and each component is
 // handed to `keep` with its index. Answers their number.
@@ -220,7 +237,7 @@ fn survey<'a>(
     let mut digests = [0; LIMIT];
     let mut place = region.next_magic(0, length);
     while place < length {
-        let Some(component) = region.component_at(place) else {
+        let Some(component) = region.component_at(place).filter(|c| region.sum_fits(c)) else {
             return astray(place);
         };
         let buried = region.next_magic(place + region.align, component.end);
@@ -390,7 +407,7 @@ fn slot_to_replace(image: &[u8], name: &[u8], content: &[u8]) -> Result<Slot, Re
     Ok(slot)
 }
 
-// Writes a component over the slot, and 0xFF after it. Answers its place.
+// Writes a component over the slot, with its sum, and 0xFF after it. Answers its place.
 fn write(image: &mut [u8], slot: Slot, name: &[u8], content: &[u8]) -> usize {
     let offset = offset_for(name);
     let (header, rest) = image[slot.from..slot.to].split_at_mut(24);
@@ -399,6 +416,8 @@ fn write(image: &mut [u8], slot: Slot, name: &[u8], content: &[u8]) -> usize {
     header[12..16].copy_from_slice(&slot.kind.to_be_bytes());
     header[16..20].fill(0);
     header[20..].copy_from_slice(&(offset as u32).to_be_bytes());
+    let stated = sum(header).wrapping_add(sum(name)).wrapping_add(sum(content));
+    header[16..20].copy_from_slice(&stated.to_be_bytes());
     let (field, rest) = rest.split_at_mut(offset - 24);
     field[..name.len()].copy_from_slice(name);
     field[name.len()..].fill(0);

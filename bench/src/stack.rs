@@ -2,6 +2,7 @@
 use crate::images::{blank, name_of, put, put_whole, BOOTBLOCK};
 use crate::ours;
 use crate::plain::LIMIT;
+use crate::sums::state_off;
 use std::hint::black_box;
 use std::thread;
 
@@ -77,11 +78,12 @@ fn depth(label: &str, call: Call, input: &Input) -> Result<usize, String> {
 const LENGTH: usize = 1 << 20;
 const SLOT: usize = (LENGTH - BOOTBLOCK) / (LIMIT + 1) / 64 * 64;
 
-// So many components, one to a slot.
+// So many components, one to a slot, each with its sum.
 fn filled(number: usize) -> Vec<u8> {
     let mut image = blank(LENGTH, BOOTBLOCK, 64, 0, 0xFF);
     for k in 0..number {
         put(&mut image, k * SLOT, &name_of(k), SLOT - 40);
+        state_off(&mut image, k * SLOT, 0);
     }
     image
 }
@@ -101,6 +103,7 @@ fn loaded() -> Vec<u8> {
         payload.extend(numbers.iter().flat_map(|n| n.to_be_bytes()));
     }
     put_whole(&mut image, 1024, b"payload", 0x20, &payload);
+    [128, 1024].into_iter().for_each(|place| state_off(&mut image, place, 0));
     image
 }
 
@@ -124,12 +127,13 @@ fn mapped() -> Vec<u8> {
 
 // The images and the arguments.
 struct Given {
-    // as many components as are allowed; one more; one less; two with one name; a place with the magic and no component
+    // as many components as are allowed; one more; one less; two with one name; a place with the magic and no component; a wrong sum in the last
     full: Vec<u8>,
     over: Vec<u8>,
     room: Vec<u8>,
     twice: Vec<u8>,
     stray: Vec<u8>,
+    wrong: Vec<u8>,
     loads: Vec<u8>,
     map: Vec<u8>,
     // the name of the last component; contents that fit its slot, that hold the magic, and that fit no slot
@@ -144,12 +148,13 @@ const LAST: usize = (LIMIT - 1) * SLOT;
 
 fn given() -> Given {
     let (full, room) = (filled(LIMIT), filled(LIMIT - 1));
-    let (mut twice, mut stray) = (full.clone(), room.clone());
+    let (mut twice, mut stray, mut wrong) = (full.clone(), room.clone(), full.clone());
     put(&mut twice, SLOT, &name_of(0), SLOT - 40);
     stray[LAST..][..8].copy_from_slice(b"LARCHIVE");
+    state_off(&mut wrong, LAST, 1);
     let (last, fits, long) = (name_of(LIMIT - 1), vec![7; SLOT - 40], vec![7; LENGTH]);
     let magic = [&[7; 24], &b"LARCHIVE"[..]].concat();
-    Given { full, over: filled(LIMIT + 1), room, twice, stray, loads: loaded(), map: mapped(), last, fits, magic, long }
+    Given { full, over: filled(LIMIT + 1), room, twice, stray, wrong, loads: loaded(), map: mapped(), last, fits, magic, long }
 }
 
 // A call with its inputs, and what its arrays may take.
@@ -165,7 +170,7 @@ fn refused(number: u64) -> u64 {
 }
 
 fn lines(given: &Given) -> Vec<Line<'_>> {
-    let Given { full, over, room, twice, stray, loads, map, last, fits, magic, long } = given;
+    let Given { full, over, room, twice, stray, wrong, loads, map, last, fits, magic, long } = given;
     let (place, held) = (LAST as u64, (SLOT - 40) as u64);
     let of = |image, name, number, content, answer| Input { image, name, number, content, answer };
     let by_number = |image, number, answer| of(image, &[][..], number, &[][..], answer);
@@ -174,19 +179,24 @@ fn lines(given: &Given) -> Vec<Line<'_>> {
     // The image is refused by 1; a part of it is empty.
     let (short, empty) = (|| of(&full[..63], last, 0, fits, refused(1)), || of(&full[..63], last, 0, &[], 0));
     let none_left = by_number(full, LENGTH - BOOTBLOCK, u64::from(u32::MAX));
-    let step = || vec![by_number(full, LAST, place), none_left, by_number(full, 1, refused(9)), short()];
-    let find = || vec![by_name(full, last, place), by_name(full, b"none", refused(10)), short()];
-    let lookup = || vec![by_name(full, last, held), by_name(full, b"none", 0), empty()];
-    let part = |length| vec![by_number(full, LAST, length), by_number(full, 1, 0), empty()];
+    let unsummed = by_number(wrong, LAST, u64::from(u32::MAX));
+    let step = || vec![by_number(full, LAST, place), unsummed, none_left, by_number(full, 1, refused(9)), short()];
+    let find =
+        || vec![by_name(full, last, place), by_name(wrong, last, refused(10)), by_name(full, b"none", refused(10)), short()];
+    let lookup = || vec![by_name(full, last, held), by_name(wrong, last, 0), by_name(full, b"none", 0), empty()];
+    let part = |length| vec![by_number(full, LAST, length), by_number(wrong, LAST, 0), by_number(full, 1, 0), empty()];
+    let astray = refused(12) + place;
     let check = |k, answer| {
-        let strays = by_number(stray, k, refused(12) + place);
-        vec![by_number(full, k, answer), by_number(over, k, refused(13)), by_number(twice, k, refused(11)), strays, short()]
+        let refusals = [by_number(over, k, refused(13)), by_number(twice, k, refused(11))];
+        let places = [by_number(stray, k, astray), by_number(wrong, k, astray)];
+        [&[by_number(full, k, answer), short()], &refusals[..], &places].concat()
     };
     let add = vec![
         edit(room, b"new", fits, place),
         edit(full, b"new", fits, refused(13)),
         edit(room, b"new", magic, refused(16)),
         edit(room, b"new", long, refused(17)),
+        edit(wrong, b"new", fits, astray),
         short(),
     ];
     let replace = vec![
@@ -194,8 +204,10 @@ fn lines(given: &Given) -> Vec<Line<'_>> {
         edit(full, b"none", fits, refused(10)),
         edit(full, last, magic, refused(16)),
         edit(full, last, long, refused(17)),
+        edit(wrong, last, fits, astray),
         short(),
     ];
+    let remove = vec![by_name(full, last, place), by_name(wrong, last, astray), by_name(full, b"none", refused(10)), short()];
     let stage = vec![by_name(loads, b"stage", 128 + 68), by_name(loads, b"payload", refused(18)), short()];
     let payload = |k, answer| vec![of(loads, b"payload", k, &[], answer), of(loads, b"stage", k, &[], refused(18)), short()];
     let areas = |k, answer| vec![by_number(map, k, answer), by_number(loads, k, refused(27)), short()];
@@ -223,7 +235,7 @@ fn lines(given: &Given) -> Vec<Line<'_>> {
         check_line("`strict_check`, the directory kept", |i, x| ours::strict_place(i, x.number), check(LIMIT - 1, place), PLACES),
         check_line("`add`", |i, x| ours::add(i, x.name, x.number as u32, x.content), add, 0),
         check_line("`replace`", |i, x| ours::replace(i, x.name, x.content), replace, 0),
-        check_line("`remove`", |i, x| ours::remove(i, x.name), find(), 0),
+        check_line("`remove`", |i, x| ours::remove(i, x.name), remove, 0),
         line("`stage`", |i, x| ours::stage(i, x.name), stage),
         plan_line("`payload`, its count", |i, x| ours::payload(i, x.name), payload(0, 16)),
         plan_line("`payload`, the plan kept", |i, x| ours::segment(i, x.name, x.number), payload(14, 1024 + 54)),

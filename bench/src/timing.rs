@@ -5,6 +5,14 @@ use std::time::Instant;
 
 pub const CALLS: [&str; 5] = ["plain listing", "guarded listing", "plain lookup", "guarded lookup", "strict check"];
 
+// Where each of them stands in CALLS.
+pub const PLAIN_LISTING: usize = 0;
+pub const GUARDED_LISTING: usize = 1;
+pub const PLAIN_LOOKUP: usize = 2;
+pub const GUARDED_LOOKUP: usize = 3;
+pub const STRICT_CHECK: usize = 4;
+pub const EVERY: &[usize] = &[PLAIN_LISTING, GUARDED_LISTING, PLAIN_LOOKUP, GUARDED_LOOKUP, STRICT_CHECK];
+
 pub type Call = fn(&[u8], &[u8]) -> u64;
 
 // Both sides of each call, in the order of CALLS.
