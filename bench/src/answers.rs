@@ -104,7 +104,7 @@ fn compare_noting(seen: &mut Occurs, label: &str, image: &[u8], name: &[u8], met
     if (1..=8).contains(&(listed >> 32)) {
         return differing;
     }
-    let (refusal, told) = (strict >> 32, strict as u32 as usize);
+    let (refusal, reported) = (strict >> 32, strict as u32 as usize);
     let some = |stated, test: &dyn Fn(&Met) -> bool| met.iter().any(|m| m.stated == stated && test(m));
     seen.wrong.note(wrong(met.iter()));
     seen.sums.note([
@@ -112,8 +112,8 @@ fn compare_noting(seen: &mut Occurs, label: &str, image: &[u8], name: &[u8], met
         some(Stated::Nothing, &|_| true),
         some(Stated::Wrong, &|_| true),
         some(Stated::Right, &|_| refusal == 0),
-        some(Stated::Wrong, &|m| refusal == 12 && m.place == told),
-        some(Stated::Right, &|m| refusal == 12 && m.place < told && told < m.end),
+        some(Stated::Wrong, &|m| refusal == 12 && m.place == reported),
+        some(Stated::Right, &|m| refusal == 12 && m.place < reported && reported < m.end),
         some(Stated::Right, &|m| m.place as u64 == first),
         some(Stated::Right, &|m| m.place as u64 == only),
         some(Stated::Wrong, &|m| m.name == name),

@@ -32,7 +32,7 @@ fn all(number: u64) -> [u64; 5] {
     [refused(number, 0); 5]
 }
 
-// Both listings and the strict check count `n`, and nobody bears the name.
+// Both listings and the strict check count `n`, and no component has the name.
 fn unnamed(n: u64) -> [u64; 5] {
     [n, n, refused(10, 0), refused(10, 0), n]
 }
@@ -116,7 +116,7 @@ fn wide_image() -> Vec<u8> {
     image
 }
 
-// Several places at align 65,536. Places are told from the image's start.
+// Several places at align 65,536. Places are counted from the image's start.
 fn wide() -> usize {
     let whole = wide_image();
     let mut unmet = 0;
@@ -129,9 +129,9 @@ fn wide() -> usize {
         unmet += hold("align 65,536", &whole, name, unnamed(5));
     }
     // A place with the magic that is ill formed, at 30 times 65,536.
-    let mut stray = whole.clone();
-    stray[30 * WIDE..][..8].copy_from_slice(b"LARCHIVE");
-    unmet += hold("stray magic", &stray, b"last", [5, 5, 4_063_232, 4_063_232, refused(12, 1_966_080)]);
+    let mut untaken = whole.clone();
+    untaken[30 * WIDE..][..8].copy_from_slice(b"LARCHIVE");
+    unmet += hold("untaken magic", &untaken, b"last", [5, 5, 4_063_232, 4_063_232, refused(12, 1_966_080)]);
     // The magic between places is none.
     let mut between = whole.clone();
     between[30 * WIDE + 16..][..8].copy_from_slice(b"LARCHIVE");
@@ -228,7 +228,7 @@ fn counts() -> usize {
         put_whole(&mut twice, (number - 1) * 4096, b"c0", 3, &[0; 16]);
         unmet += hold("count, twice", &twice, b"c0", [n, n, 0, refused(11, 0), refused(strict, 0)]);
         twice[8_192_000..][..8].copy_from_slice(b"LARCHIVE");
-        unmet += hold("count, stray magic", &twice, b"c0", [n, n, 0, refused(11, 0), refused(12, 8_192_000)]);
+        unmet += hold("count, untaken magic", &twice, b"c0", [n, n, 0, refused(11, 0), refused(12, 8_192_000)]);
     }
     unmet
 }
@@ -320,7 +320,7 @@ fn sums_of_a() -> usize {
         unmet += hold("a wrong sum", &summed(2200, wrong), b"cal/13", [1, 1, none, none, refused(12, 192)]);
         unmet += hold("wrong sums", &summed(2201, wrong), b"cal/13", [0, 0, none, none, at_first]);
     }
-    // With cal/12's name made cal/13 its sum is 2201. Where it states another, cal/13 is borne once.
+    // With cal/12's name made cal/13 its sum is 2201. Where it states another, one component has the name cal/13.
     for (sum, places, strict) in [(2201, [0, refused(11, 0)], refused(11, 0)), (2200, [192, 192], at_first)] {
         let mut twice = summed(sum, 2125);
         twice[29] = b'3';
@@ -368,8 +368,8 @@ fn largest_sum() -> usize {
         put(&mut image, 0, b"all", 16_777_140);
         for (sum, good) in [(4_278_172_333, true), (0, true), (4_278_172_332, false), (4_278_172_334, false), (u32::MAX, false)] {
             state(&mut image, 0, sum);
-            let (none, astray) = (refused(10, 0), refused(12, 0));
-            unmet += hold("largest", &image, b"all", if good { at(1, 0) } else { [0, 0, none, none, astray] });
+            let (none, refused_untaken) = (refused(10, 0), refused(12, 0));
+            unmet += hold("largest", &image, b"all", if good { at(1, 0) } else { [0, 0, none, none, refused_untaken] });
         }
         let content = vec![0xFF; 16_777_140];
         let added = written(&free, 0..MOST - 36, b"all", KIND, &content, 4_278_172_413);
@@ -415,29 +415,29 @@ fn edits_of(a: Vec<u8>) -> usize {
     let fine = blank(4096, 1024, 16, 0, 0xFF);
     unmet += hold_edit(&fine, ADD, b"xxxxxxxxLARCHIVE", b"", refused(16, 0), None);
     // A name that two components have, and the magic where no component is.
-    let (mut twice, mut stray) = (a.clone(), a.clone());
+    let (mut twice, mut untaken) = (a.clone(), a.clone());
     twice[29] = b'3';
     state(&mut twice, 0, 2201);
-    stray[2048..][..8].copy_from_slice(b"LARCHIVE");
+    untaken[2048..][..8].copy_from_slice(b"LARCHIVE");
     for edit in [ADD, REPLACE, REMOVE] {
         unmet += hold_edit(&twice, edit, b"cal/13", b"", refused(11, 0), None);
-        unmet += hold_edit(&stray, edit, b"cal/13", b"", refused(12, 2048), None);
+        unmet += hold_edit(&untaken, edit, b"cal/13", b"", refused(12, 2048), None);
     }
     unmet
 }
 
-// Places are told from the image's start, and not from the region's, which begins at byte 128.
+// Places are counted from the image's start, and not from the region's, which begins at byte 128.
 fn edits_at_offset() -> usize {
     let mut image = blank(4096, 1024, 64, 128, 0xFF);
     put_whole(&mut image, 128, b"cal/12", 3, &[0; 100]);
-    let mut stray = image.clone();
-    stray[1024..][..8].copy_from_slice(b"LARCHIVE");
+    let mut untaken = image.clone();
+    untaken[1024..][..8].copy_from_slice(b"LARCHIVE");
     let added = Some(written(&image, 320..3072, b"log", KIND, b"new", 1365));
     let replaced = Some(written(&image, 128..3072, b"cal/12", 3, b"new", 1416));
     hold_edit(&image, ADD, b"log", b"new", 320, added)
         + hold_edit(&image, REPLACE, b"cal/12", b"new", 128, replaced)
         + hold_edit(&image, REMOVE, b"cal/12", b"", 128, Some(cleared(&image, 128..3072)))
-        + hold_edit(&stray, ADD, b"log", b"new", refused(12, 1024), None)
+        + hold_edit(&untaken, ADD, b"log", b"new", refused(12, 1024), None)
 }
 
 // An add is done beside 1,023 components, and refused beside 1,024; the other edits are done there. Beside 1,025 all are refused.

@@ -6,7 +6,7 @@ use crate::images::{blank, put_whole, Random};
 use crate::plain::LIMIT;
 use crate::sums::{met, right_sum, state_all, state_some, stated_at, wrong, Seen, Stated, WRONG};
 
-// What an edit can come to but for refusals 1 to 8: done, which is 0, or a refusal.
+// The outcomes of an edit but for refusals 1 to 8: done, which is 0, or a refusal.
 const OUTCOMES: [&[usize]; 3] = [&[0, 11, 12, 13, 14, 15, 16, 17], &[0, 10, 11, 12, 13, 16, 17], &[0, 10, 11, 12, 13]];
 // Fewest times that each of these must occur.
 const FLOOR: usize = 100;
@@ -120,9 +120,9 @@ pub fn differing(images: usize) -> (usize, usize) {
             seen[edit][refusal % 18] += 1;
             let beside = |stated| done && before.iter().any(|m| m.stated == stated);
             let (right, nothing) = (beside(Stated::Right), beside(Stated::Nothing));
-            let astray = before.iter().find(|m| refusal == 12 && m.place == place && m.stated == Stated::Wrong);
-            occurs[edit].note([right, nothing, right && nothing, astray.is_some()]);
-            wrongs.note(wrong(astray.into_iter()));
+            let refused_untaken = before.iter().find(|m| refusal == 12 && m.place == place && m.stated == Stated::Wrong);
+            occurs[edit].note([right, nothing, right && nothing, refused_untaken.is_some()]);
+            wrongs.note(wrong(refused_untaken.into_iter()));
         }
     }
     differing += EDITS.iter().zip(occurs).map(|(edit, occurs)| occurs.seldom(&format!("sums, {edit}"), FLOOR)).sum::<usize>();

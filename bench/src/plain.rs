@@ -4,7 +4,7 @@ const MAGIC: &[u8; 8] = b"LARCHIVE";
 // How many components an image may have.
 pub const LIMIT: usize = 1024;
 
-// A refusal's number and the place that it tells.
+// A refusal's number and the place that it reports.
 #[derive(Clone, Copy)]
 pub struct Refusal {
     number: u32,
@@ -16,7 +16,7 @@ fn refused<T>(number: u32) -> Result<T, Refusal> {
 }
 
 // A count or a place in the lower 32 bits; a refusal's number in the upper 32, with its place in the lower.
-fn told(answer: Result<usize, Refusal>) -> u64 {
+fn answer_number(answer: Result<usize, Refusal>) -> u64 {
     match answer {
         Ok(value) => value as u64,
         Err(refusal) => (u64::from(refusal.number) << 32) + refusal.place as u64,
@@ -165,12 +165,12 @@ impl<'a> Iterator for Walk<'a> {
                 continue;
             };
             let end = component.end;
-            let buried = if self.guarded { region.next_magic(place + region.align, end) } else { end };
-            if buried >= end {
+            let inside = if self.guarded { region.next_magic(place + region.align, end) } else { end };
+            if inside >= end {
                 self.at = region.onward(end);
                 return Some(component);
             }
-            place = buried;
+            place = inside;
         }
         self.at = length;
         None
@@ -178,7 +178,7 @@ impl<'a> Iterator for Walk<'a> {
 }
 
 fn count(guarded: bool, image: &[u8]) -> u64 {
-    told(region(image).map(|region| region.walk(guarded).filter(|c| !guarded || region.sum_fits(c)).count()))
+    answer_number(region(image).map(|region| region.walk(guarded).filter(|c| !guarded || region.sum_fits(c)).count()))
 }
 
 pub fn plain_count(image: &[u8]) -> u64 {
@@ -200,11 +200,11 @@ fn find(guarded: bool, image: &[u8], name: &[u8]) -> Result<usize, Refusal> {
 }
 
 pub fn plain_place(image: &[u8], name: &[u8]) -> u64 {
-    told(find(false, image, name))
+    answer_number(find(false, image, name))
 }
 
 pub fn guarded_place(image: &[u8], name: &[u8]) -> u64 {
-    told(find(true, image, name))
+    answer_number(find(true, image, name))
 }
 
 // A number made of a name's bytes, eight at a time; two words are taken at a step. Names with different digests differ.
@@ -221,8 +221,8 @@ pub fn digest(name: &[u8]) -> u32 {
     further(odd.iter().map(word).fold(pairs.iter().fold(0, two), further), last)
 }
 
-// The strict check of a region, in one pass: a place with the magic that is ill formed, or that lies in a span, is astray. Each span that states a
-// sum is summed once, before it is searched: where the sum is wrong it is the span's own place that is astray. Then the names are
+// The strict check of a region, in one pass: a place with the magic that is ill formed, or that lies in a span, is untaken. Each span that states a
+// sum is summed once, before it is searched: where the sum is wrong it is the span's own place that is untaken. Then the names are
 // compared with the later ones, from the last component down, by their digests, which the pass takes. A digest leaves a mark in a table: 0 stands
 // for none, 255 for different ones. Where no later digest left its mark there, none is the same. The names are stored, and each component is
 // handed to `keep` with its index. Answers their number.
@@ -232,17 +232,17 @@ fn survey<'a>(
     mut keep: impl FnMut(usize, Component),
 ) -> Result<usize, Refusal> {
     let length = region.bytes.len();
-    let astray = |place: usize| Err(Refusal { number: 12, place: region.start + place });
+    let untaken = |place: usize| Err(Refusal { number: 12, place: region.start + place });
     let mut count = 0;
     let mut digests = [0; LIMIT];
     let mut place = region.next_magic(0, length);
     while place < length {
         let Some(component) = region.component_at(place).filter(|c| region.sum_fits(c)) else {
-            return astray(place);
+            return untaken(place);
         };
-        let buried = region.next_magic(place + region.align, component.end);
-        if buried < component.end {
-            return astray(buried);
+        let inside = region.next_magic(place + region.align, component.end);
+        if inside < component.end {
+            return untaken(inside);
         }
         if count < LIMIT {
             names[count] = component.name;
@@ -273,7 +273,7 @@ fn survey<'a>(
     Ok(count)
 }
 
-// The components' places, told from the image's start, and zeros after them.
+// The components' places, counted from the image's start, and zeros after them.
 struct Directory {
     count: usize,
     places: [usize; LIMIT],
@@ -287,12 +287,12 @@ fn strict_check(image: &[u8]) -> Result<Directory, Refusal> {
 }
 
 pub fn strict_count(image: &[u8]) -> u64 {
-    told(strict_check(image).map(|directory| directory.count))
+    answer_number(strict_check(image).map(|directory| directory.count))
 }
 
 // The k-th place of the directory, 0 past its end.
 pub fn strict_place(image: &[u8], k: usize) -> u64 {
-    told(strict_check(image).map(|directory| directory.places.get(k).copied().unwrap_or(0)))
+    answer_number(strict_check(image).map(|directory| directory.places.get(k).copied().unwrap_or(0)))
 }
 
 // Edits in one pass: the strict check keeps the components' names and spans, and the name, the slot and the free runs follow from them.
@@ -428,16 +428,16 @@ fn write(image: &mut [u8], slot: Slot, name: &[u8], content: &[u8]) -> usize {
 }
 
 pub fn add(image: &mut [u8], name: &[u8], kind: u32, content: &[u8]) -> u64 {
-    told(slot_to_add(image, name, kind, content).map(|slot| write(image, slot, name, content)))
+    answer_number(slot_to_add(image, name, kind, content).map(|slot| write(image, slot, name, content)))
 }
 
 pub fn replace(image: &mut [u8], name: &[u8], content: &[u8]) -> u64 {
-    told(slot_to_replace(image, name, content).map(|slot| write(image, slot, name, content)))
+    answer_number(slot_to_replace(image, name, content).map(|slot| write(image, slot, name, content)))
 }
 
 pub fn remove(image: &mut [u8], name: &[u8]) -> u64 {
     let slot = components(image).and_then(|components| components.slot_named(name));
-    told(slot.map(|slot| {
+    answer_number(slot.map(|slot| {
         image[slot.from..slot.to].fill(0xFF);
         slot.from
     }))

@@ -132,7 +132,7 @@ struct Given {
     over: Vec<u8>,
     room: Vec<u8>,
     twice: Vec<u8>,
-    stray: Vec<u8>,
+    untaken: Vec<u8>,
     wrong: Vec<u8>,
     loads: Vec<u8>,
     map: Vec<u8>,
@@ -148,13 +148,13 @@ const LAST: usize = (LIMIT - 1) * SLOT;
 
 fn given() -> Given {
     let (full, room) = (filled(LIMIT), filled(LIMIT - 1));
-    let (mut twice, mut stray, mut wrong) = (full.clone(), room.clone(), full.clone());
+    let (mut twice, mut untaken, mut wrong) = (full.clone(), room.clone(), full.clone());
     put(&mut twice, SLOT, &name_of(0), SLOT - 40);
-    stray[LAST..][..8].copy_from_slice(b"LARCHIVE");
+    untaken[LAST..][..8].copy_from_slice(b"LARCHIVE");
     state_off(&mut wrong, LAST, 1);
     let (last, fits, long) = (name_of(LIMIT - 1), vec![7; SLOT - 40], vec![7; LENGTH]);
     let magic = [&[7; 24], &b"LARCHIVE"[..]].concat();
-    Given { full, over: filled(LIMIT + 1), room, twice, stray, wrong, loads: loaded(), map: mapped(), last, fits, magic, long }
+    Given { full, over: filled(LIMIT + 1), room, twice, untaken, wrong, loads: loaded(), map: mapped(), last, fits, magic, long }
 }
 
 // A call with its inputs, and what its arrays may take.
@@ -170,7 +170,7 @@ fn refused(number: u64) -> u64 {
 }
 
 fn lines(given: &Given) -> Vec<Line<'_>> {
-    let Given { full, over, room, twice, stray, wrong, loads, map, last, fits, magic, long } = given;
+    let Given { full, over, room, twice, untaken, wrong, loads, map, last, fits, magic, long } = given;
     let (place, held) = (LAST as u64, (SLOT - 40) as u64);
     let of = |image, name, number, content, answer| Input { image, name, number, content, answer };
     let by_number = |image, number, answer| of(image, &[][..], number, &[][..], answer);
@@ -185,10 +185,10 @@ fn lines(given: &Given) -> Vec<Line<'_>> {
         || vec![by_name(full, last, place), by_name(wrong, last, refused(10)), by_name(full, b"none", refused(10)), short()];
     let lookup = || vec![by_name(full, last, held), by_name(wrong, last, 0), by_name(full, b"none", 0), empty()];
     let part = |length| vec![by_number(full, LAST, length), by_number(wrong, LAST, 0), by_number(full, 1, 0), empty()];
-    let astray = refused(12) + place;
+    let refused_untaken = refused(12) + place;
     let check = |k, answer| {
         let refusals = [by_number(over, k, refused(13)), by_number(twice, k, refused(11))];
-        let places = [by_number(stray, k, astray), by_number(wrong, k, astray)];
+        let places = [by_number(untaken, k, refused_untaken), by_number(wrong, k, refused_untaken)];
         [&[by_number(full, k, answer), short()], &refusals[..], &places].concat()
     };
     let add = vec![
@@ -196,7 +196,7 @@ fn lines(given: &Given) -> Vec<Line<'_>> {
         edit(full, b"new", fits, refused(13)),
         edit(room, b"new", magic, refused(16)),
         edit(room, b"new", long, refused(17)),
-        edit(wrong, b"new", fits, astray),
+        edit(wrong, b"new", fits, refused_untaken),
         short(),
     ];
     let replace = vec![
@@ -204,10 +204,11 @@ fn lines(given: &Given) -> Vec<Line<'_>> {
         edit(full, b"none", fits, refused(10)),
         edit(full, last, magic, refused(16)),
         edit(full, last, long, refused(17)),
-        edit(wrong, last, fits, astray),
+        edit(wrong, last, fits, refused_untaken),
         short(),
     ];
-    let remove = vec![by_name(full, last, place), by_name(wrong, last, astray), by_name(full, b"none", refused(10)), short()];
+    let remove =
+        vec![by_name(full, last, place), by_name(wrong, last, refused_untaken), by_name(full, b"none", refused(10)), short()];
     let stage = vec![by_name(loads, b"stage", 128 + 68), by_name(loads, b"payload", refused(18)), short()];
     let payload = |k, answer| vec![of(loads, b"payload", k, &[], answer), of(loads, b"stage", k, &[], refused(18)), short()];
     let areas = |k, answer| vec![by_number(map, k, answer), by_number(loads, k, refused(27)), short()];

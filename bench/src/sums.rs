@@ -188,8 +188,8 @@ impl<const N: usize> Seen<N> {
 
     // How many of them occurred too seldom. Prints how often each did.
     pub fn seldom(&self, label: &str, floor: usize) -> usize {
-        let told = self.what.iter().zip(self.times).map(|(what, times)| format!("{what} {times}"));
-        println!("{label}: {}", told.collect::<Vec<_>>().join(", "));
+        let words = self.what.iter().zip(self.times).map(|(what, times)| format!("{what} {times}"));
+        println!("{label}: {}", words.collect::<Vec<_>>().join(", "));
         let seldom = self.what.iter().zip(self.times).filter(|&(_, times)| times < floor);
         seldom.inspect(|(what, times)| println!("SELDOM: {label}, {what}: {times} times, and at least {floor} wanted")).count()
     }

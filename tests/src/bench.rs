@@ -133,7 +133,7 @@ pub fn plain() -> Vec<Literal> {
 
 type Add<'a> = &'a mut dyn FnMut(Case, String);
 
-/// The two components of A, as a listing and a step tell them.
+/// The two components of A, as a listing and a step report them.
 fn rows_of_a() -> (String, String) {
     let first = format!("0\t4294967295\t{CAL_12}\t{}", "00".repeat(100));
     let second = format!("192\t4294967295\t{CAL_13}\t{}", "00".repeat(24));

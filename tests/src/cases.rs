@@ -469,7 +469,7 @@ fn neighbours(rng: &mut Rng, scenes: &mut Vec<Scene>) {
                 }
                 put(&mut image, second as i64, &Raw::new(b"second", 2, b"").bytes());
                 let raw = Raw::new(b"first", 1, &vec![0x5A; len as usize]);
-                // A span that reaches over the next place must not spoil the header there.
+                // A span that reaches over the next place must not corrupt the header there.
                 let bytes = raw.bytes();
                 put(&mut image, offset as i64, &bytes[..bytes.len().min(second - offset)]);
                 Frame::new(length, 36, 36, align, offset).stamp(&mut image);
@@ -839,8 +839,8 @@ pub fn random_raw(rng: &mut Rng, room: usize, align: usize) -> Raw {
     raw
 }
 
-/// Spoils one field of a component, just so much that it may be ill formed.
-pub fn spoil_raw(rng: &mut Rng, raw: &mut Raw, room: usize) {
+/// Corrupts one field of a component, just so much that it may be ill formed.
+pub fn corrupt_raw(rng: &mut Rng, raw: &mut Raw, room: usize) {
     let size = raw.field.len();
     match rng.below(9) {
         0 => raw.offset = *rng.pick(&[0, 24, 39, 41, 55, 57, 279, 281, 296, 0xFFFF_FFF8]),
@@ -874,7 +874,7 @@ pub fn fill(rng: &mut Rng, image: &mut [u8], frame: &Frame) -> Vec<Vec<u8>> {
         let mut raw = random_raw(rng, room, align);
         let mut place = at as i64;
         match rng.below(12) {
-            0 | 1 => spoil_raw(rng, &mut raw, room),
+            0 | 1 => corrupt_raw(rng, &mut raw, room),
             2 => place += *rng.pick(&[-8, -1, 1, 8]),
             3 => {
                 put(image, place, LARCHIVE);

@@ -42,7 +42,7 @@ fn ask(probe: &Words, capability: &Capability, part: &[Case], tally: &mut Tally)
 /// A component takes so many bytes at least.
 const LEAST: usize = 40;
 
-/// How a case came out, for counting. An answer to `u` or `v` tells no refusal: its image is counted by the one that it has.
+/// How a case came out, for counting. An answer to `u` or `v` reports no refusal: its image is counted by the one that it has.
 /// An answer of the strict check or an edit is counted by the number of components too.
 fn kinds(case: &Case, expected: &str) -> Vec<String> {
     let mut kinds = vec![outcome(expected)];
@@ -70,7 +70,7 @@ fn compare_one(capability: &Capability, number: usize, case: &Case, expected: &s
         tally.agreed += 1;
         return;
     }
-    let told = format!("operation {}, {} case {number} ({})", case.op as char, capability.name, case.note);
+    let described = format!("operation {}, {} case {number} ({})", case.op as char, capability.name, case.note);
     let text = format!(
         "{} case {number} differs: {}\n  expected: {}\n  got:      {}",
         capability.name,
@@ -78,7 +78,7 @@ fn compare_one(capability: &Capability, number: usize, case: &Case, expected: &s
         clip(expected),
         clip(got)
     );
-    tally.differ(told, text);
+    tally.differ(described, text);
     tally.keep(case);
 }
 
@@ -129,13 +129,13 @@ fn bench_cases(capability: &Capability, tally: &mut Tally) -> Vec<Case> {
 fn pair_cases(capability: &Capability, tally: &mut Tally) -> Vec<Case> {
     let mut cases = Vec::new();
     for both in (capability.both)() {
-        let told = format!("{} ({} and {})", both.case.describe(), both.first, both.second);
+        let described = format!("{} ({} and {})", both.case.describe(), both.first, both.second);
         if !both.first_holds || !both.second_holds {
-            tally.fail(format!("the two conditions do not hold together: {told}"));
+            tally.fail(format!("the two conditions do not hold together: {described}"));
         }
         let kind = outcome(&(capability.answer)(&both.case));
         if kind != format!("refused {}", both.first) {
-            tally.fail(format!("the reference gives {kind} for two refusals: {told}"));
+            tally.fail(format!("the reference gives {kind} for two refusals: {described}"));
         }
         tally.meet(both.case.op, both.first, both.second);
         cases.push(both.case);
@@ -191,10 +191,10 @@ pub fn check_output(words: &Words, input: &[u8], expected: &str, note: &str, cal
             if got == expected {
                 tally.agreed += 1;
             } else {
-                let told = if input.len() <= 256 { hex(input) } else { String::new() };
+                let described = if input.len() <= 256 { hex(input) } else { String::new() };
                 let which = format!("{call}, {note}");
                 let text = format!(
-                    "{which}: differs on an input of {} bytes {told}\n  expected: {}\n  got:      {}",
+                    "{which}: differs on an input of {} bytes {described}\n  expected: {}\n  got:      {}",
                     input.len(),
                     clip(expected),
                     clip(&got)

@@ -29,7 +29,7 @@ pub fn unfit(name: &[u8]) -> bool {
 }
 
 /// Refusal 16's condition: the magic at a multiple of align above 0 from the span's start.
-pub fn buried(span: &[u8], align: usize) -> bool {
+pub fn contains_magic(span: &[u8], align: usize) -> bool {
     (align..span.len()).step_by(align).any(|at| span[at..].starts_with(LARCHIVE))
 }
 
@@ -67,7 +67,7 @@ pub fn add(image: &mut [u8], name: &[u8], kind: u32, content: &[u8]) -> Result<u
         return Err((13, 0));
     }
     let bytes = span(name, kind, content);
-    if buried(&bytes, region.align) {
+    if contains_magic(&bytes, region.align) {
         return Err((16, 0));
     }
     let runs = free_runs(&list, region);
@@ -86,7 +86,7 @@ pub fn replace(image: &mut [u8], name: &[u8], content: &[u8]) -> Result<usize, R
     let (region, list) = accepted(image)?;
     let (component, slot) = slot_of(&list, region, name)?;
     let bytes = span(name, component.kind, content);
-    if buried(&bytes, region.align) {
+    if contains_magic(&bytes, region.align) {
         return Err((16, 0));
     }
     if bytes.len() > slot.1 - slot.0 {

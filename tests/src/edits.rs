@@ -94,9 +94,9 @@ fn edit_holds(number: u32, case: &Case) -> bool {
         13 => list.len() >= 1_024,
         14 => edit::unfit(&case.name),
         15 => bears.is_some(),
-        16 => edit::buried(&bytes, region.align),
+        16 => edit::contains_magic(&bytes, region.align),
         _ if case.op == b'a' => edit::free_runs(&list, region).iter().all(|(start, end)| end - start < bytes.len()),
-        // A replace of a name that nobody bears has no slot; the whole region stands for it.
+        // A replace of a name that no component has has no slot; the whole region stands for it.
         _ => {
             let slot = bears.map_or((region.start, region.end), |index| strict::slots(&list, region)[index]);
             slot.1 - slot.0 < bytes.len()
@@ -280,7 +280,7 @@ fn sums_of_a(add: &mut dyn FnMut(Case, &str, &[u8])) {
     for wrong in WRONG_13 {
         refused(&a_stating(0, wrong), 192);
     }
-    // Len made 500: 12 at the hidden cal/13 where cal/12 states its sum, and at cal/12 where it states a wrong one.
+    // Len made 500: 12 at cal/13 inside where cal/12 states its sum, and at cal/12 where it states a wrong one.
     refused(&long_stating(LONG_SUM, 0), 192);
     for wrong in WRONG_LONG {
         refused(&long_stating(wrong, 0), 0);

@@ -17,7 +17,7 @@ use crate::protocol::{refused, Case};
 use crate::rng::Rng;
 use crate::sums::{mostly_good, state, Stated};
 use crate::walk::{self, LARCHIVE};
-use crate::{conditions, spoiler, strict, sums};
+use crate::{conditions, corrupter, strict, sums};
 
 pub fn capability() -> Capability {
     Capability { name: "guarded", operations: "gjkc", answer, pairs, bench, both, generated, share: 60 }
@@ -146,7 +146,7 @@ fn bench() -> Vec<Literal> {
     add(ask(b'c', &a), "accepted\t2\t0\t0\t192\n".into());
     add(ask(b'k', &a).named(b"cal/13"), format!("found\t192\t4294967295\t{zeros}\n"));
     add(ask(b'k', &a).named(b"cal/1"), "refused\t10\t0\t0\n".into());
-    // A with cal/12's len made 500: guarded lists only cal/13, at 192; the strict check tells 192.
+    // A with cal/12's len made 500: guarded lists only cal/13, at 192; the strict check reports 192.
     let long = long_cal_12();
     add(ask(b'g', &long), format!("component\t{second}\nend\t1\n"));
     add(ask(b'j', &long), format!("taken\t{second}\t256\n"));
@@ -210,7 +210,7 @@ fn sums_of_a(add: &mut dyn FnMut(Case, String)) {
     let neither = Arc::new(a_stating(SUM_12 + 1, SUM_13 - 1));
     add(ask(b'c', &neither), refusal(12, 0));
     add(ask(b'g', &neither), "end\t0\n".into());
-    // Len made 500: with its sum, or none, the plain walk takes cal/12, and 12 is at the hidden cal/13; with a wrong one at cal/12.
+    // Len made 500: with its sum, or none, the plain walk takes cal/12, and 12 is at cal/13 inside; with a wrong one at cal/12.
     for (one, other) in [(0, SUM_13), (LONG_SUM, 0), (LONG_SUM_OVER_SUM, SUM_13)] {
         let long = long_stating(one, other);
         add(ask(b'c', &long), refusal(12, 192));
@@ -222,7 +222,7 @@ fn sums_of_a(add: &mut dyn FnMut(Case, String)) {
         add(ask(b'c', &long), refusal(12, 0));
         add(ask(b'g', &long), format!("component\t{second}\nend\t1\n"));
     }
-    // cal/13's sum is wrong, and cal/12 hides it: both walks pass it over, and it is the place that the plain walk does not take.
+    // cal/13's sum is wrong, and it lies inside cal/12: both walks pass it over, and it is the place that the plain walk does not take.
     add(ask(b'c', &long_stating(0, SUM_13 + 1)), refusal(12, 192));
     add(ask(b'g', &long_stating(0, SUM_13 + 1)), "end\t0\n".into());
     // Name made cal/13: the sum that was right is so no longer, and there is one bearer.
@@ -240,7 +240,7 @@ fn sums_of_a(add: &mut dyn FnMut(Case, String)) {
 
 /// A magic in a span, at its end and around it, at each align. The span states no sum; at times there is the same with its sum, or a
 /// wrong one, beside it.
-fn buried(rng: &mut Rng, scenes: &mut Vec<Scene>) {
+fn magic_inside(rng: &mut Rng, scenes: &mut Vec<Scene>) {
     for align in [16, 64, 256] {
         let size = 4 * align + 100;
         let end = size + 3 * align + 9;
@@ -260,7 +260,7 @@ fn buried(rng: &mut Rng, scenes: &mut Vec<Scene>) {
                                 image: Arc::new(image),
                                 numbers: vec![0, (at * align).min(end) as u64],
                                 names: vec![b"outer".to_vec(), b"inner".to_vec()],
-                                note: "buried",
+                                note: "magic inside",
                             });
                         };
                         scene(image.clone());
@@ -281,14 +281,14 @@ fn buried(rng: &mut Rng, scenes: &mut Vec<Scene>) {
 }
 
 /// The magic in the name, at each multiple of 16 from the header and beside it, at places and between them; without a sum and with it.
-fn buried_in_name(scenes: &mut Vec<Scene>) {
+fn magic_in_name(scenes: &mut Vec<Scene>) {
     for align in [16, 32, 64, 256] {
         for at in (32..=256).step_by(16).flat_map(|at| [at - 1, at, at + 1]) {
             let name = [&vec![b'x'; at - 24][..], LARCHIVE].concat();
             let raw = Raw::new(&name, 1, b"content");
             for raw in [raw.clone(), raw.summed()] {
                 let image = Arc::new(lay(&Frame::new(1024, 36, 100, align, 0), &[(0, raw)]));
-                scenes.push(Scene { image, numbers: vec![0], names: vec![name.clone()], note: "buried in the name" });
+                scenes.push(Scene { image, numbers: vec![0], names: vec![name.clone()], note: "magic in the name" });
             }
         }
     }
@@ -335,8 +335,8 @@ fn ask(scene: &Scene, cases: &mut Vec<Case>) {
 fn generated(seed: u64, count: usize) -> Vec<Batch> {
     let mut rng = Rng::new(seed ^ 0x6A4D);
     let mut scenes = Vec::new();
-    buried(&mut rng, &mut scenes);
-    buried_in_name(&mut scenes);
+    magic_inside(&mut rng, &mut scenes);
+    magic_in_name(&mut scenes);
     crowds(&mut scenes);
     let mut cases = Vec::new();
     for scene in &scenes {
@@ -353,8 +353,8 @@ fn generated(seed: u64, count: usize) -> Vec<Batch> {
         ask(&cases::random(&mut rng), &mut cases);
     }
     let mut batches = vec![Batch::plain(cases)];
-    batches.extend(spoiler::single_damages(&mut rng));
-    batches.extend(spoiler::batches(&mut rng, count / 3));
+    batches.extend(corrupter::single_damages(&mut rng));
+    batches.extend(corrupter::batches(&mut rng, count / 3));
     let mut cases = Vec::new();
     cases::longest().iter().for_each(|scene| ask(scene, &mut cases));
     batches.push(Batch::plain(cases));

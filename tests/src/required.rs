@@ -4,8 +4,8 @@
 
 use std::collections::BTreeSet;
 
+use crate::corrupter::{DAMAGED, DAMAGES};
 use crate::deciding::{GUARDED, PLACE, PLAIN, STRICT};
-use crate::spoiler::{DAMAGED, DAMAGES};
 use crate::sums::WRONG;
 use crate::tally::Tally;
 
@@ -19,7 +19,7 @@ struct Row {
 const HEADER: &[u32] = &[1, 2, 3, 4, 5, 6, 7, 8];
 const CHECK: &[u32] = &[12, 13, 11];
 
-/// An answer to `u` or `v` tells no refusal, so the images are counted by theirs.
+/// An answer to `u` or `v` reports no refusal, so the images are counted by theirs.
 const PART: &[&str] = &[
     "part",
     "empty part",
@@ -80,7 +80,7 @@ pub fn beside(call: &str, kind: &str, count: usize) -> Option<String> {
 /// Calls that judge headers. Each serves a component without a sum and one with its right sum, and is decided by a wrong one.
 const JUDGING: &[&str] = &["p", "g", "i", "j", "l", "k", "c", "a", "r", "d", "s", "y", "e", "z", "u", "v", "listing program"];
 
-/// What the sums of components come to, call by call and for calls together.
+/// The outcomes of the components' sums, call by call and for calls together.
 fn of_sums() -> Vec<(&'static str, String)> {
     let mut list = Vec::new();
     let mut add = |calls: &[&'static str], kinds: &[&str]| {

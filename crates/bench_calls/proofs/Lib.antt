@@ -1,3 +1,3 @@
 pub mod Refusing
 pub mod Stepping
-pub mod Apart
+pub mod Encodings

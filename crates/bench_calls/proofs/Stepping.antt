@@ -8,18 +8,18 @@ use mathlib.Core.Bool.{Bool}
 use mathlib.Core.Option.{Option, some, none}
 use lib.ListN.{length, length-map}
 use Rattle.walk.specs.Walk.{Entry, Pick, pickOf, next, step, follow, steps, listingFrom}
-use Rattle.walk.specs.declared.Taken.{Taken}
-use Rattle.terms.specs.Terms.{bytesOf}
-use Rattle.terms.specs.declared.Region.{Region}
-use Rattle.terms.specs.declared.Refusal.{Refusal}
-use Rattle.master.specs.Master.{master}
-use Rattle.master.specs.declared.Master.the-variants.{Read}
-use Rattle.master.proofs.Facts.{Known, known}
-use Rattle.region.specs.Region.{takenAt, stepIn, Walked, ended, went}
-use Rattle.region.specs.declared.Step.{Step}
-use Rattle.region.specs.declared.Step.the-variants.{Took, NoneLeft, Refused}
-use Rattle.region.proofs.Listing.{listing-walked}
-use Rattle.claims.proofs.Images.{bytes-length}
+use Rattle.cbfs_types.specs.declared.Taken.{Taken}
+use Rattle.region.specs.Region.{regionBytes}
+use Rattle.cbfs_types.specs.declared.Region.{Region}
+use Rattle.cbfs_types.specs.declared.Refusal.{Refusal}
+use Rattle.master_header.specs.Master.{master}
+use Rattle.cbfs_types.specs.declared.Master.the-variants.{Read}
+use Rattle.master_header.proofs.Facts.{Known, known}
+use Rattle.region_read.specs.RegionRead.{takenIn, stepIn, Walked, walk-ended, walk-stepped}
+use Rattle.cbfs_types.specs.declared.Step.{Step}
+use Rattle.cbfs_types.specs.declared.Step.the-variants.{Took, NoneLeft, Refused}
+use Rattle.region_read.proofs.Listing.{listing-walked}
+use Rattle.image_claims.proofs.Images.{bytes-length}
 use Rattle.bench_calls.specs.Calls.{listed, countOf}
 
 -- A listing has no more components than bytes.
@@ -44,24 +44,24 @@ module _ {call : ℕ → Step} {total from n : ℕ} where
   count-on t e c = go (c .rest) (c .walked) (c .sum)
     where
       go : (ts : List Taken) → Walked call from ts → n + length ts ≡ total → (n < total) × Counting call total (t .next) (n + 1)
-      go ts (ended q) s = let z : _≡_ {A = ℕ} 0 1 = cc in absurd (omega arith)
-      go (u ∷ us) (went q w) s = let same : u ≡ t = cc in (omega arith, record { rest = us; walked = rw same at w; sum = omega arith })
+      go ts (walk-ended q) s = let z : _≡_ {A = ℕ} 0 1 = cc in absurd (omega arith)
+      go (u ∷ us) (walk-stepped q w) s = let same : u ≡ t = cc in (omega arith, record { rest = us; walked = rw same at w; sum = omega arith })
 
   -- Where none is left, all are counted.
   pub count-end : call from ≡ NoneLeft → Counting call total from n → n ≡ total
   count-end e c = go (c .rest) (c .walked) (c .sum)
     where
       go : (ts : List Taken) → Walked call from ts → n + length ts ≡ total → n ≡ total
-      go ts (ended q) s = omega arith
-      go ts (went q w) s = let z : _≡_ {A = ℕ} 0 1 = cc in absurd (omega arith)
+      go ts (walk-ended q) s = omega arith
+      go ts (walk-stepped q w) s = let z : _≡_ {A = ℕ} 0 1 = cc in absurd (omega arith)
 
   -- No step is refused.
   pub count-unrefused : (r : Refusal) → call from ≡ Refused r → Counting call total from n → ⊥
   count-unrefused r e c = go (c .rest) (c .walked)
     where
       go : (ts : List Taken) → Walked call from ts → ⊥
-      go ts (ended q) = let z : _≡_ {A = ℕ} 0 1 = cc in omega arith
-      go ts (went q w) = let z : _≡_ {A = ℕ} 0 1 = cc in omega arith
+      go ts (walk-ended q) = let z : _≡_ {A = ℕ} 0 1 = cc in omega arith
+      go ts (walk-stepped q w) = let z : _≡_ {A = ℕ} 0 1 = cc in omega arith
 
 -- An image i that is read, and its region g.
 module _ (w : Bool) (i : List ℕ) (g : Region) (read : master i ≡ Read g) where
@@ -71,11 +71,18 @@ module _ (w : Bool) (i : List ℕ) (g : Region) (read : master i ≡ Read g) whe
   -- At the region's start nothing is counted.
   pub count-start : Counting (stepIn w i g) (countOf w i) (g .start) 0
   count-start = record {
-    rest = map (takenAt i g) (listed w i g);
+    rest = map (takenIn i g) (listed w i g);
     walked = listing-walked w i g (omega (arith, facts .least)) (facts .forward) (facts .inside);
-    sum = rw read (zero-add _ ∙ length-map (listed w i g) (takenAt i g));
+    sum = rw read (zero-add _ ∙ length-map (listed w i g) (takenIn i g));
   }
 
   pub count-few : countOf w i ≤ 16777216
   unfolding listingFrom
-  count-few = rw read (omega (arith, facts .short, facts .inside, bytes-length i g read i refl, steps-few (pickOf w (bytesOf i g) (g .align)) (bytesOf i g) (g .align) (length (bytesOf i g)) 0))
+  count-few =
+      rw read (omega (
+        arith,
+        facts .short,
+        facts .inside,
+        bytes-length i g read i refl,
+        steps-few (pickOf w (regionBytes i g) (g .align)) (regionBytes i g) (g .align) (length (regionBytes i g)) 0,
+      ))

@@ -1,34 +1,36 @@
 // The calls that `bench/` times, and whose stack it measures, exported to plain Rust: one or more for each public call of the library.
 // Each answers one number, for any bytes.
-// A count, a length or a place stands in the lower 32 bits. A refusal has its number in the upper 32, and the place that it tells in the lower.
-use area::Area;
-use checker::MOST;
-use editor::Edited;
-use master::Master;
-use region::Found;
-use region::Step;
-use signature::Found as Signatures;
-use terms::Refusal;
-use terms::Region;
+// A count, a length or a place stands in the lower 32 bits. A refusal has its number in the upper 32, and the place that it reports in the lower.
+use cbfs_types::AREAS_MAX;
+use cbfs_types::Area;
+use cbfs_types::COMPONENTS_MAX;
+use cbfs_types::Edited;
+use cbfs_types::Found;
+use cbfs_types::Master;
+use cbfs_types::Refusal;
+use cbfs_types::Region;
+use cbfs_types::SEGMENTS_MAX;
+use cbfs_types::SignatureSearch;
+use cbfs_types::Step;
 ghost use mathlib.Core.Path.{_≡_};
 ghost use Prim.Native.Nat.{_%_, _<_};
 ghost use Rattle.component.specs.Sums.{total};
-ghost use Rattle.terms.specs.declared.Refusal.{Refusal};
-ghost use Rattle.master.specs.Master.{master as masterOf};
-ghost use Rattle.master.specs.declared.Master.the-variants.{Read};
-ghost use Rattle.editor.specs.declared.Edited.the-variants.{Refused as EditRefused};
-ghost use Rattle.finding.specs.Finding.{findOf};
-ghost use Rattle.reading.specs.Reading.{stepOf};
-ghost use Rattle.editing.specs.Editing.{added, replaced, removed};
-ghost use Rattle.bench_calls.specs.Calls.{refusalNumber, valueOr, countOf, plainCount, guardedCount, placeOf, plainPlace, guardedPlace};
-ghost use Rattle.bench_calls.specs.Calls.{strictCount, strictPlace, editNumber, addPlace, replacePlace, removePlace, regionStart};
-ghost use Rattle.bench_calls.specs.Calls.{takenBy, plainTaken, guardedTaken, plainLength, guardedLength, nameLength, contentLength};
+ghost use Rattle.cbfs_types.specs.declared.Refusal.{Refusal};
+ghost use Rattle.master_header.specs.Master.{master as masterOf};
+ghost use Rattle.cbfs_types.specs.declared.Master.the-variants.{Read};
+ghost use Rattle.cbfs_types.specs.declared.Edited.the-variants.{Refused as EditRefused};
+ghost use Rattle.image_find.specs.ImageFind.{imageFind};
+ghost use Rattle.image_walk.specs.ImageWalk.{imageStep};
+ghost use Rattle.image_edit.specs.ImageEdit.{imageAdd, imageReplace, imageRemove};
+ghost use Rattle.bench_calls.specs.Calls.{encodedRefusal, valueOr, countOf, plainCount, guardedCount, placeFound, plainPlace, guardedPlace};
+ghost use Rattle.bench_calls.specs.Calls.{strictCount, strictPlace, encodedEdit, addPlace, replacePlace, removePlace, regionStart};
+ghost use Rattle.bench_calls.specs.Calls.{takenBy, plainTaken, guardedTaken, plainLength, guardedLength, nameLengthAt, contentLength};
 ghost use Rattle.bench_calls.specs.Calls.{stageSource, payloadCount, segmentSource, areaCount, areaOffset, offsetAt, areaNameLength, signaturePlace};
 
 // A refusal as one number.
-fn refusal_number(r: Refusal) -> u64
+fn encoded_refusal(r: Refusal) -> u64
     requires { ⌜ r .place < 4294967296 ⌝ }
-    ensures { λ n. ⌜ n ≡ refusalNumber r ⌝ }
+    ensures { λ n. ⌜ n ≡ encodedRefusal r ⌝ }
 {
     r.number as u64 * 4294967296 + r.place as u64
 }
@@ -41,7 +43,7 @@ fn value_or(number: u32, place: usize, value: usize) -> u64
     if number == 0 {
         return value as u64;
     }
-    refusal_number(Refusal { number, place })
+    encoded_refusal(Refusal { number, place })
 }
 
 // How many components a walk lists: its steps from the region's start to none left. None of them is refused.
@@ -52,7 +54,7 @@ fn count_steps(guarded: bool, image: &[u8], region: Region) -> u64
     let mut n = 0;
     let mut from = region.start;
     loop {
-        let s = region::step_in(guarded, image, region, from);
+        let s = region_read::step_in(guarded, image, region, from);
         match s {
             Step::Took(t) => {
                 n += 1;
@@ -75,7 +77,7 @@ fn count(guarded: bool, image: &[u8]) -> u64
     let m = cbfs::region(image);
     match m {
         Master::Read(g) => count_steps(guarded, image, g),
-        Master::Refused(r) => refusal_number(r),
+        Master::Refused(r) => encoded_refusal(r),
     }
 }
 
@@ -99,7 +101,7 @@ pub extern "C" fn bench_guarded_count(image: &[u8]) -> u64
 
 // The lookup of either walk.
 fn find(guarded: bool, image: &[u8], name: &[u8]) -> Found
-    ensures { λ f. ⌜ f ≡ findOf guarded (now (image .entry)) (now (name .entry)) ⌝ }
+    ensures { λ f. ⌜ f ≡ imageFind guarded (now (image .entry)) (now (name .entry)) ⌝ }
 {
     if guarded {
         return cbfs::guarded_find(image, name);
@@ -109,12 +111,12 @@ fn find(guarded: bool, image: &[u8], name: &[u8]) -> Found
 
 // The place that a lookup finds, or its refusal.
 fn place(guarded: bool, image: &[u8], name: &[u8]) -> u64
-    ensures { λ n. ⌜ n ≡ placeOf guarded (now (image .entry)) (now (name .entry)) ⌝ }
+    ensures { λ n. ⌜ n ≡ placeFound guarded (now (image .entry)) (now (name .entry)) ⌝ }
 {
     let f = find(guarded, image, name);
     match f {
         Found::At(t) => t.place as u64,
-        Found::Refused(r) => refusal_number(r),
+        Found::Refused(r) => encoded_refusal(r),
     }
 }
 
@@ -154,20 +156,20 @@ pub extern "C" fn bench_strict_place(image: &[u8], k: usize) -> u64
     ensures kept { λ _. ⌜ now (image .exit) ≡ now (image .entry) ⌝ }
 {
     let d = cbfs::strict_check(image);
-    if k < MOST {
+    if k < COMPONENTS_MAX {
         return value_or(d.number, d.place, d.places[k]);
     }
     value_or(d.number, d.place, 0)
 }
 
 // The place of the component that an edit wrote or removed, or its refusal.
-fn edit_number(e: Edited) -> u64
+fn encoded_edit(e: Edited) -> u64
     requires { ⌜ ((r : Refusal) → e ≡ EditRefused r → r .place < 4294967296) ⌝ }
-    ensures { λ n. ⌜ n ≡ editNumber e ⌝ }
+    ensures { λ n. ⌜ n ≡ encodedEdit e ⌝ }
 {
     match e {
         Edited::Done(p) => p as u64,
-        Edited::Refused(x) => refusal_number(x),
+        Edited::Refused(x) => encoded_refusal(x),
     }
 }
 
@@ -175,33 +177,33 @@ fn edit_number(e: Edited) -> u64
 #[no_mangle]
 pub extern "C" fn bench_add(image: &mut [u8], name: &[u8], kind: u32, content: &[u8]) -> u64
     ensures { λ n. ⌜ n ≡ addPlace (now (image .entry)) (now (name .entry)) kind (now (content .entry)) ⌝ }
-    ensures bytes { λ _. ⌜ now (image .exit) ≡ added (now (image .entry)) (now (name .entry)) kind (now (content .entry)) .image ⌝ }
+    ensures bytes { λ _. ⌜ now (image .exit) ≡ imageAdd (now (image .entry)) (now (name .entry)) kind (now (content .entry)) .image ⌝ }
     ensures kept { λ _. ⌜ (now (name .exit) ≡ now (name .entry)) × (now (content .exit) ≡ now (content .entry)) ⌝ }
 {
     let e = cbfs::add(image, name, kind, content);
-    edit_number(e)
+    encoded_edit(e)
 }
 
 // The place of the component that is replaced, or refusals 1 to 8, 12, 13, 11, 10, 16 and 17.
 #[no_mangle]
 pub extern "C" fn bench_replace(image: &mut [u8], name: &[u8], content: &[u8]) -> u64
     ensures { λ n. ⌜ n ≡ replacePlace (now (image .entry)) (now (name .entry)) (now (content .entry)) ⌝ }
-    ensures bytes { λ _. ⌜ now (image .exit) ≡ replaced (now (image .entry)) (now (name .entry)) (now (content .entry)) .image ⌝ }
+    ensures bytes { λ _. ⌜ now (image .exit) ≡ imageReplace (now (image .entry)) (now (name .entry)) (now (content .entry)) .image ⌝ }
     ensures kept { λ _. ⌜ (now (name .exit) ≡ now (name .entry)) × (now (content .exit) ≡ now (content .entry)) ⌝ }
 {
     let e = cbfs::replace(image, name, content);
-    edit_number(e)
+    encoded_edit(e)
 }
 
 // The place of the component that is removed, or refusals 1 to 8, 12, 13, 11 and 10.
 #[no_mangle]
 pub extern "C" fn bench_remove(image: &mut [u8], name: &[u8]) -> u64
     ensures { λ n. ⌜ n ≡ removePlace (now (image .entry)) (now (name .entry)) ⌝ }
-    ensures bytes { λ _. ⌜ now (image .exit) ≡ removed (now (image .entry)) (now (name .entry)) .image ⌝ }
+    ensures bytes { λ _. ⌜ now (image .exit) ≡ imageRemove (now (image .entry)) (now (name .entry)) .image ⌝ }
     ensures kept { λ _. ⌜ now (name .exit) ≡ now (name .entry) ⌝ }
 {
     let e = cbfs::remove(image, name);
-    edit_number(e)
+    encoded_edit(e)
 }
 
 // Where the region begins, or refusals 1 to 8.
@@ -213,13 +215,13 @@ pub extern "C" fn bench_region(image: &[u8]) -> u64
     let m = cbfs::region(image);
     match m {
         Master::Read(g) => g.start as u64,
-        Master::Refused(x) => refusal_number(x),
+        Master::Refused(x) => encoded_refusal(x),
     }
 }
 
 // A step of either walk.
 fn step(guarded: bool, image: &[u8], from: usize) -> Step
-    ensures { λ s. ⌜ s ≡ stepOf guarded (now (image .entry)) from ⌝ }
+    ensures { λ s. ⌜ s ≡ imageStep guarded (now (image .entry)) from ⌝ }
 {
     if guarded {
         return cbfs::guarded_step(image, from);
@@ -235,7 +237,7 @@ fn taken(guarded: bool, image: &[u8], from: usize) -> u64
     match s {
         Step::Took(t) => t.place as u64,
         Step::NoneLeft => 4294967295,
-        Step::Refused(x) => refusal_number(x),
+        Step::Refused(x) => encoded_refusal(x),
     }
 }
 
@@ -278,7 +280,7 @@ pub extern "C" fn bench_guarded_lookup(image: &[u8], name: &[u8]) -> u64
 // How long the name of the component at a place is; 0 where none stands there.
 #[no_mangle]
 pub extern "C" fn bench_name_at(image: &[u8], place: usize) -> u64
-    ensures { λ n. ⌜ n ≡ nameLength (now (image .entry)) place ⌝ }
+    ensures { λ n. ⌜ n ≡ nameLengthAt (now (image .entry)) place ⌝ }
     ensures kept { λ _. ⌜ now (image .exit) ≡ now (image .entry) ⌝ }
 {
     cbfs::name_at(image, place).len() as u64
@@ -320,7 +322,7 @@ pub extern "C" fn bench_segment(image: &[u8], name: &[u8], k: usize) -> u64
     ensures kept { λ _. ⌜ (now (image .exit) ≡ now (image .entry)) × (now (name .exit) ≡ now (name .entry)) ⌝ }
 {
     let p = cbfs::payload(image, name);
-    if k < 16 {
+    if k < SEGMENTS_MAX {
         let s = p.segments[k];
         return value_or(p.number, 0, s.source);
     }
@@ -344,7 +346,7 @@ pub extern "C" fn bench_area(image: &[u8], k: usize) -> u64
     ensures kept { λ _. ⌜ now (image .exit) ≡ now (image .entry) ⌝ }
 {
     let m = fmap::read(image);
-    if k < 256 {
+    if k < AREAS_MAX {
         let a = m.areas[k];
         return value_or(m.number, 0, a.offset);
     }
@@ -358,7 +360,7 @@ pub extern "C" fn bench_map_at(image: &[u8], at: usize, size: usize, k: usize) -
     ensures kept { λ _. ⌜ now (image .exit) ≡ now (image .entry) ⌝ }
 {
     let m = fmap::map_at(image, at, size);
-    if k < 256 {
+    if k < AREAS_MAX {
         let a = m.areas[k];
         return value_or(m.number, 0, a.offset);
     }
@@ -388,9 +390,9 @@ pub extern "C" fn bench_signatures(image: &[u8]) -> u64
 {
     let f = fmap::signatures(image);
     match f {
-        Signatures::At(p) => p as u64,
-        Signatures::Nothing => refusal_number(terms::refused(27)),
-        Signatures::Several => refusal_number(terms::refused(28)),
+        SignatureSearch::Found(p) => p as u64,
+        SignatureSearch::NotFound => encoded_refusal(region::refusal_by(27)),
+        SignatureSearch::Several => encoded_refusal(region::refusal_by(28)),
     }
 }
 

@@ -3,7 +3,7 @@
 use Prim.Native.Nat.{ℕ, _-_}
 use mathlib.Core.List.{List, [], _∷_, _++_}
 use lib.ListN.{length, replicate}
-use Rattle.number.specs.Number.{beBytes, leBytes}
+use Rattle.bytes_read.specs.Number.{beBytes, leBytes}
 
 -- LARCHIVE, letter by letter.
 unfoldable pub larchive : List ℕ

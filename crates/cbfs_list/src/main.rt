@@ -12,33 +12,33 @@ type Page = [u8; 262144];
 fn put_number(page: &mut Page, used: usize, n: usize) -> usize {
     let mut digits = [0u8; 20];
     let k = io::decimal(n as u64, &mut digits);
-    text::put(page, used, &digits[..k])
+    program_text::put(page, used, &digits[..k])
 }
 
 fn put_component(page: &mut Page, used: usize, image: &[u8], t: Taken) -> usize {
     let h = t.header;
-    let digits = text::type_digits(h.kind);
+    let digits = program_text::type_digits(h.kind);
     let mut at = put_number(page, used, t.place);
-    at = text::put(page, at, b"\t");
-    at = text::put(page, at, cbfs::name_at(image, t.place));
-    at = text::put(page, at, b"\t");
-    at = text::put(page, at, &digits);
-    at = text::put(page, at, b"\t");
+    at = program_text::put(page, at, b"\t");
+    at = program_text::put(page, at, cbfs::name_at(image, t.place));
+    at = program_text::put(page, at, b"\t");
+    at = program_text::put(page, at, &digits);
+    at = program_text::put(page, at, b"\t");
     at = put_number(page, at, h.len);
-    text::put(page, at, b"\n")
+    program_text::put(page, at, b"\n")
 }
 
 // A line of a word, with its tab, and a number.
 fn put_line(page: &mut Page, used: usize, word: &[u8], n: usize) -> usize {
-    let mut at = text::put(page, used, word);
+    let mut at = program_text::put(page, used, word);
     at = put_number(page, at, n);
-    text::put(page, at, b"\n")
+    program_text::put(page, at, b"\n")
 }
 
 // The whole listing from the region's start. An image has fewer components than bytes, so the bound on the count is never met;
 // and no step from where the last one left off is refused.
 fn put_listing(page: &mut Page, image: &[u8], start: usize) -> usize {
-    let mut at = text::put(page, 0, b"place\tname\ttype\tlength\n");
+    let mut at = program_text::put(page, 0, b"place\tname\ttype\tlength\n");
     let mut from = start;
     let mut count = 0;
     while count < image.len() {
@@ -72,7 +72,7 @@ fn put_answer(page: &mut Page, image: &[u8]) -> usize {
 }
 
 fn write(page: &Page, used: usize) {
-    io::write_all(STDOUT_FILENO, number::part(page, 0, used));
+    io::write_all(STDOUT_FILENO, bytes_read::part(page, 0, used));
 }
 
 fn main() {

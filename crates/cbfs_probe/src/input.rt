@@ -33,7 +33,7 @@ fn little(eight: &mut [u8], n: usize) -> Got {
     }
     let got = io::read_full(STDIN_FILENO, &mut eight[0..n]);
     Got {
-        value: number::le64(eight, 0) as usize,
+        value: bytes_read::le64(eight, 0) as usize,
         whole: got == n,
     }
 }

@@ -1,9 +1,9 @@
 // The test driver: cases on standard input, an answer to each on standard output. It holds no logic of its own.
 // An operation is one function here, and one line of `answer`. Each writes to a page, and answers how many of its bytes are then in use.
+
 mod input;
 mod output;
 
-use area::Area;
 use cbfs::Edited;
 use cbfs::Found;
 use cbfs::Master;
@@ -12,7 +12,10 @@ use cbfs::Refusal;
 use cbfs::Segment;
 use cbfs::Step;
 use cbfs::Taken;
-use fmap::Map;
+use cbfs_types::AREAS_MAX;
+use cbfs_types::SEGMENTS_MAX;
+use fmap::Area;
+use fmap::FlashMap;
 use input::Bytes;
 use input::Case;
 use input::Name;
@@ -132,7 +135,7 @@ fn find(page: &mut Page, f: Found) -> usize {
     match f {
         Found::At(t) => {
             let h = t.header;
-            let ns = [t.place, h.offset, h.len, h.kind as usize, h.named, t.next];
+            let ns = [t.place, h.offset, h.len, h.kind as usize, h.namelen, t.next];
             let mut at = output::start(page, 0, output::FOUND, 6, ns);
             at = output::number(page, at, h.checksum as usize);
             output::byte(page, at, b'\n')
@@ -183,9 +186,9 @@ fn strict_check(page: &mut Page, image: &[u8]) -> usize {
 }
 
 // 0 where every area from `from` on is zero throughout, else 1.
-fn unused_areas(areas: [Area; 256], from: usize) -> usize {
+fn unused_areas(areas: [Area; AREAS_MAX], from: usize) -> usize {
     let mut i = from;
-    while i < 256 {
+    while i < AREAS_MAX {
         let a = areas[i];
         if a.offset | a.size | a.flags as usize | a.name != 0 {
             return 1;
@@ -196,10 +199,10 @@ fn unused_areas(areas: [Area; 256], from: usize) -> usize {
 }
 
 // The lines of the first n areas.
-fn put_areas(page: &mut Page, used: usize, areas: [Area; 256], n: usize) -> usize {
+fn put_areas(page: &mut Page, used: usize, areas: [Area; AREAS_MAX], n: usize) -> usize {
     let mut at = used;
     let mut i = 0;
-    while i < 256 {
+    while i < AREAS_MAX {
         if n <= i {
             break;
         }
@@ -212,7 +215,7 @@ fn put_areas(page: &mut Page, used: usize, areas: [Area; 256], n: usize) -> usiz
 }
 
 // The lines of a map.
-fn map_lines(page: &mut Page, m: Map) -> usize {
+fn map_lines(page: &mut Page, m: FlashMap) -> usize {
     let areas = m.areas;
     let rest = unused_areas(areas, m.count);
     let ns = [m.minor as usize, m.base as usize, m.count, rest, 0, 0];
@@ -269,9 +272,9 @@ fn numbers_of(x: Segment) -> Numbers {
 }
 
 // 0 where every segment from `from` on is zero throughout, else 1.
-fn unused_segments(segments: [Segment; 16], from: usize) -> usize {
+fn unused_segments(segments: [Segment; SEGMENTS_MAX], from: usize) -> usize {
     let mut i = from;
-    while i < 16 {
+    while i < SEGMENTS_MAX {
         let x = segments[i];
         let ns = numbers_of(x);
         if unused(&ns, 0) != 0 {
@@ -283,10 +286,15 @@ fn unused_segments(segments: [Segment; 16], from: usize) -> usize {
 }
 
 // The lines of the first n segments.
-fn put_segments(page: &mut Page, used: usize, segments: [Segment; 16], n: usize) -> usize {
+fn put_segments(
+    page: &mut Page,
+    used: usize,
+    segments: [Segment; SEGMENTS_MAX],
+    n: usize,
+) -> usize {
     let mut at = used;
     let mut i = 0;
-    while i < 16 {
+    while i < SEGMENTS_MAX {
         if n <= i {
             break;
         }
@@ -359,7 +367,7 @@ fn edit_case(
         return 0;
     }
     let e = edit(op, &mut image[0..i], name, content, c.number.value);
-    edited(page, e, number::part(image, 0, i))
+    edited(page, e, bytes_read::part(image, 0, i))
 }
 
 // The answer to an operation that only reads; 0 for an unknown one, since no answer is empty.
@@ -413,7 +421,7 @@ fn answered(
     if !n.whole {
         return 0;
     }
-    let asked = number::part(name, 0, c.name);
+    let asked = bytes_read::part(name, 0, c.name);
     if is_edit(op) {
         return edit_case(
             page,
@@ -421,10 +429,16 @@ fn answered(
             c,
             image,
             asked,
-            number::part(content, 0, c.content),
+            bytes_read::part(content, 0, c.content),
         );
     }
-    answer(page, op, number::part(image, 0, c.image), asked, n.value)
+    answer(
+        page,
+        op,
+        bytes_read::part(image, 0, c.image),
+        asked,
+        n.value,
+    )
 }
 
 // Reads a case and answers it, and says whether the run goes on. An end of the input in place of an operation just ends it.

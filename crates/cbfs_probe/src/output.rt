@@ -48,7 +48,7 @@ pub(crate) fn write(page: &Page, used: usize) -> bool {
     if used == 0 {
         return bad_case();
     }
-    io::write_all(STDOUT_FILENO, number::part(page, 0, used));
+    io::write_all(STDOUT_FILENO, bytes_read::part(page, 0, used));
     true
 }
 
@@ -59,7 +59,7 @@ fn bad_case() -> bool {
 
 // One byte, as a tab or a line end.
 pub(crate) fn byte(page: &mut Page, used: usize, b: u8) -> usize {
-    text::put(page, used, &[b])
+    program_text::put(page, used, &[b])
 }
 
 // How many letters stand before the blanks.
@@ -76,7 +76,7 @@ fn letters(w: Word) -> usize {
 
 fn word(page: &mut Page, used: usize, w: Word) -> usize {
     let n = letters(w);
-    text::put(page, used, number::part(&w, 0, n))
+    program_text::put(page, used, bytes_read::part(&w, 0, n))
 }
 
 // A tab and a decimal number.
@@ -84,7 +84,7 @@ pub(crate) fn number(page: &mut Page, used: usize, n: usize) -> usize {
     let at = byte(page, used, b'\t');
     let mut digits = [0u8; 20];
     let k = io::decimal(n as u64, &mut digits);
-    text::put(page, at, &digits[..k])
+    program_text::put(page, at, &digits[..k])
 }
 
 // A tab and a number, for each of the first n.
@@ -104,7 +104,7 @@ pub(crate) fn numbers(page: &mut Page, used: usize, ns: &[usize], n: usize) -> u
 // A tab and bytes in hexadecimal.
 pub(crate) fn bytes(page: &mut Page, used: usize, s: &[u8]) -> usize {
     let at = byte(page, used, b'\t');
-    text::hex(page, at, s)
+    program_text::hex(page, at, s)
 }
 
 // The start of a line: a word and n numbers.

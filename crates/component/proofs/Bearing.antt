@@ -9,60 +9,60 @@ use lib.ListN.{length, drop, getD, length-drop}
 use lib.Seq.{length-take-le}
 use lib.Dec.{eqb}
 use borrow.Author.Tests.{eqb-true, eq-eqb}
-use Rattle.number.specs.Bytes.{partOf, eqBytes}
-use Rattle.number.proofs.SameBytes.{eq-true, eq-refl}
-use Rattle.component.specs.Component.{Component, numbers, judged, headerOf, nameOf, bearsName}
-use Rattle.component.specs.declared.Header.{Header}
+use Rattle.bytes_read.specs.Bytes.{partOf, eqBytes}
+use Rattle.bytes_read.proofs.SameBytes.{eq-true, eq-refl}
+use Rattle.component.specs.Component.{Component, judgeNumbers, judged, headerOf, nameOf, bearsName}
+use Rattle.cbfs_types.specs.declared.Header.{Header}
 use Rattle.component.specs.declared.Judged.the-variants.{WellFormed, IllFormed}
-use Rattle.component.proofs.Judging.{judged-some, judged-none, part-bare}
+use Rattle.component.proofs.Judging.{judged-some, judged-none, part-unsummed}
 use Rattle.component.proofs.Exactly.{numbers-ends}
 
 module _ (s name : List ℕ) where
   -- A component that bears the name has it in its field, and a zero behind it.
-  borne : (c : Component) → numbers s ≡ some c → eqBytes (c .name) name ≡ true → (partOf s 24 (length name) ≡ name) × (getD s (24 + length name) 0 ≡ 0)
-  borne c e b =
+  has-name : (c : Component) → judgeNumbers s ≡ some c → eqBytes (c .name) name ≡ true → (partOf s 24 (length name) ≡ name) × (getD s (24 + length name) 0 ≡ 0)
+  has-name c e b =
       let q = eq-true (c .name) name b in (
-        subst (λ (x : List ℕ). partOf s 24 (length x) ≡ x) q (part-bare s (headerOf c) (ap judged e) ∙ ap nameOf e),
+        subst (λ (x : List ℕ). partOf s 24 (length x) ≡ x) q (part-unsummed s (headerOf c) (ap judged e) ∙ ap nameOf e),
         subst (λ (x : List ℕ). getD s (24 + length x) 0 ≡ 0) q (numbers-ends s c e .0),
       )
 
   -- So where a fact that it brings does not hold, none does.
-  unborne : ((c : Component) → numbers s ≡ some c → eqBytes (c .name) name ≡ true → ⊥) → false ≡ bearsName name (numbers s)
-  unborne h = go (numbers s) refl
+  has-no-name : ((c : Component) → judgeNumbers s ≡ some c → eqBytes (c .name) name ≡ true → ⊥) → false ≡ bearsName name (judgeNumbers s)
+  has-no-name h = go (judgeNumbers s) refl
     where
-      by : (c : Component) → numbers s ≡ some c → (b : Bool) → eqBytes (c .name) name ≡ b → false ≡ b
+      by : (c : Component) → judgeNumbers s ≡ some c → (b : Bool) → eqBytes (c .name) name ≡ b → false ≡ b
       by c e false q = refl
       by c e true q = absurd (h c e q)
 
-      go : (o : Option Component) → numbers s ≡ o → false ≡ bearsName name o
+      go : (o : Option Component) → judgeNumbers s ≡ o → false ≡ bearsName name o
       go none e = refl
       go (some c) e = by c e (eqBytes (c .name) name) refl
 
-  pub too-long : 255 < length name → false ≡ bearsName name (numbers s)
-  too-long h = unborne (λ c e b. omega (arith, h, ap length (eq-true (c .name) name b), numbers-ends s c e .1))
+  pub too-long : 255 < length name → false ≡ bearsName name (judgeNumbers s)
+  too-long h = has-no-name (λ c e b. omega (arith, h, ap length (eq-true (c .name) name b), numbers-ends s c e .1))
 
-  pub other-field : eqBytes (partOf s 24 (length name)) name ≡ false → false ≡ bearsName name (numbers s)
-  other-field h = unborne (λ c e b. true≢false (sym (eq-refl name) ∙ ap (λ (x : List ℕ). eqBytes x name) (sym (borne c e b .0)) ∙ h))
+  pub other-field : eqBytes (partOf s 24 (length name)) name ≡ false → false ≡ bearsName name (judgeNumbers s)
+  other-field h = has-no-name (λ c e b. true≢false (sym (eq-refl name) ∙ ap (λ (x : List ℕ). eqBytes x name) (sym (has-name c e b .0)) ∙ h))
 
-  pub longer-name : (getD s (24 + length name) 0 ≡ 0 → ⊥) → false ≡ bearsName name (numbers s)
-  longer-name h = unborne (λ c e b. h (borne c e b .1))
+  pub longer-name : (getD s (24 + length name) 0 ≡ 0 → ⊥) → false ≡ bearsName name (judgeNumbers s)
+  longer-name h = has-no-name (λ c e b. h (has-name c e b .1))
 
-  pub ill-named : judged (numbers s) ≡ IllFormed → false ≡ bearsName name (numbers s)
-  ill-named e = rw (judged-none (numbers s) e)
+  pub ill-named : judged (judgeNumbers s) ≡ IllFormed → false ≡ bearsName name (judgeNumbers s)
+  ill-named e = rw (judged-none (judgeNumbers s) e)
 
-  -- Where the field begins with the name, the lengths tell.
-  pub as-long : eqBytes (partOf s 24 (length name)) name ≡ true → (h : Header) → judged (numbers s) ≡ WellFormed h
-      → eqb (h .named) (length name) ≡ bearsName name (numbers s)
-  as-long p h e = let (c, q, r) = judged-some (numbers s) h e in go c q r (eqb (h .named) (length name)) refl
+  -- Where the field begins with the name, the lengths decide.
+  pub as-long : eqBytes (partOf s 24 (length name)) name ≡ true → (h : Header) → judged (judgeNumbers s) ≡ WellFormed h
+      → eqb (h .namelen) (length name) ≡ bearsName name (judgeNumbers s)
+  as-long p h e = let (c, q, r) = judged-some (judgeNumbers s) h e in go c q r (eqb (h .namelen) (length name)) refl
     where
-      go : (c : Component) → numbers s ≡ some c → headerOf c ≡ h → (b : Bool) → eqb (h .named) (length name) ≡ b → b ≡ bearsName name (numbers s)
+      go : (c : Component) → judgeNumbers s ≡ some c → headerOf c ≡ h → (b : Bool) → eqb (h .namelen) (length name) ≡ b → b ≡ bearsName name (judgeNumbers s)
       go c q r true l =
-          let k : partOf s 24 (length name) ≡ c .name = ap (partOf s 24) (sym (eqb-true (h .named) (length name) l)) ∙ part-bare s h e ∙ ap nameOf q in
+          let k : partOf s 24 (length name) ≡ c .name = ap (partOf s 24) (sym (eqb-true (h .namelen) (length name) l)) ∙ part-unsummed s h e ∙ ap nameOf q in
           rw (q, ← k) (sym p)
-      go c q r false l = unborne (λ d f b. differ d f b)
+      go c q r false l = has-no-name (λ d f b. differ d f b)
         where
-          differ : (d : Component) → numbers s ≡ some d → eqBytes (d .name) name ≡ true → ⊥
+          differ : (d : Component) → judgeNumbers s ≡ some d → eqBytes (d .name) name ≡ true → ⊥
           differ d f b =
               let m : headerOf d ≡ h = (cc) in
-              let n : h .named ≡ length name = sym (ap (λ (x : Header). x .named) m) ∙ ap length (eq-true (d .name) name b) in
-              true≢false (sym (eq-eqb (h .named) (length name) n) ∙ l)
+              let n : h .namelen ≡ length name = sym (ap (λ (x : Header). x .namelen) m) ∙ ap length (eq-true (d .name) name b) in
+              true≢false (sym (eq-eqb (h .namelen) (length name) n) ∙ l)

@@ -11,18 +11,19 @@ use lib.ListN.{length, take, drop, getD, length-take, length-drop}
 use lib.Seq.{length-take-le, take-take, take-suc, take-add, drop-at, getD-take, getD-drop}
 use lib.Dec.{leb, eqb}
 use borrow.Author.Tests.{leb-true, le-leb, lt-leb, ltb-true, lt-ltb, le-ltb, eqb-true, eq-eqb, ne-eqb}
-use Rattle.number.specs.Tests.{all}
-use Rattle.number.specs.Letters.{isPrintable}
-use Rattle.number.proofs.Digits.{be-same}
-use Rattle.number.proofs.Passing.{passes}
-use Rattle.number.proofs.SameBytes.{eq-true, eq-refl}
+use Rattle.bytes_read.specs.Tests.{all}
+use Rattle.bytes_read.specs.Printable.{isPrintable}
+use Rattle.bytes_read.proofs.Numbers.{be-same}
+use Rattle.bytes_read.proofs.Passing.{passes}
+use Rattle.bytes_read.proofs.SameBytes.{eq-true, eq-refl}
 use Rattle.component.specs.Names.{isZero, nameTests, nameFits, beforeZero, fieldTests, fieldFits}
-use Rattle.component.specs.Sums.{checksumOf, total, unstated, spanSum, sumFits}
-use Rattle.component.specs.Component.{Component, span, magic, startsWithMagic, nameField, componentOf, numbers, headed, judge}
-use Rattle.component.specs.Table.{len, offset, checksum, letter, counted, sumOf, WellFormedHeader, component}
+use Rattle.component.specs.Sums.{checksumOf, total, checksumZeroed, spanSum, checksumMatches}
+use Rattle.component.specs.Component.{Component, spanLength, magic, startsWithMagic, nameField, componentOf, judgeNumbers, judgeSkippingSum, judge}
+use Rattle.component.specs.Table.{len, offset, checksum, nameByte, countedByte, sumOf, WellFormedHeader, component}
 use Rattle.component.proofs.Naming.{before-take}
-use Rattle.component.proofs.Summing.{total-append, total-unstated}
-use Rattle.component.proofs.Judging.{Formed, formed, unformed, numbers-read, cond-some, summedOf, judge-magic, judge-numbers, judge-headed, headed-numbers, headed-fits, headed-read}
+use Rattle.component.proofs.Summing.{total-append, total-zeroed}
+use Rattle.component.proofs.Judging.{Formed, formed, unformed, unsummed-read, cond-some, summedOf, judge-magic, judge-by-numbers, judge-unsummed}
+use Rattle.component.proofs.Judging.{unsummed-numbers, unsummed-fits-region, unsummed-of}
 
 -- A test on every byte, by index.
 
@@ -119,14 +120,15 @@ module _ (s : List ℕ) (long : offset s ≤ length s) where
   field-length : length (nameField s) ≡ offset s - 24
   field-length = rw (length-take, length-drop) (omega arith)
 
-  nth : (j : ℕ) → 24 + j < offset s → getD (nameField s) j 0 ≡ letter s j
+  nth : (j : ℕ) → 24 + j < offset s → getD (nameField s) j 0 ≡ nameByte s j
   nth j h = getD-take (offset s - 24) (drop 24 s) j 0 (omega arith) ∙ getD-drop 24 s j 0
 
 -- The byte behind a name is zero, and a name has 255 bytes at most.
-pub numbers-ends : (s : List ℕ) (c : Component) → numbers s ≡ some c → (getD s (24 + length (c .name)) 0 ≡ 0) × (length (c .name) ≤ 255)
+pub numbers-ends : (s : List ℕ) (c : Component) → judgeNumbers s ≡ some c → (getD s (24 + length (c .name)) 0 ≡ 0) × (length (c .name) ≤ 255)
 unfolding componentOf
-numbers-ends s c e = let (least, fits, named, read) = numbers-read s c e in
-    subst (λ (x : Component). (getD s (24 + length (x .name)) 0 ≡ 0) × (length (x .name) ≤ 255)) read (ends (omega (arith, fits)) (fit-field (nameField s) named))
+numbers-ends s c e = let (least, fits, named, read) = unsummed-read s c e in
+    subst (λ (x : Component). (getD s (24 + length (x .name)) 0 ≡ 0) × (length (x .name) ≤ 255)) read
+    (ends (omega (arith, fits)) (fit-field (nameField s) named))
   where
     n : ℕ
     n = length (beforeZero (nameField s))
@@ -136,7 +138,7 @@ numbers-ends s c e = let (least, fits, named, read) = numbers-read s c e in
 
 -- The sum, byte by byte.
 
-counted-here : (s : List ℕ) (j : ℕ) → (j < 16) ⊎ (20 ≤ j) → counted s j ≡ getD s j 0
+counted-here : (s : List ℕ) (j : ℕ) → (j < 16) ⊎ (20 ≤ j) → countedByte s j ≡ getD s j 0
 counted-here s j (inl h) = rw (lt-leb 16 j h)
 counted-here s j (inr h) = rw (le-leb 16 j (omega arith), le-ltb j 20 h)
 
@@ -163,25 +165,25 @@ sum-after s (suc m) l =
     rw (n, c, sum-after s m (omega arith), take-suc (drop 20 s) m 0 k, t, getD-drop 20 s m 0) (omega arith)
 
 -- Of the first n bytes of s.
-pub sum-words : (s : List ℕ) (n : ℕ) → 20 ≤ n → n ≤ length s → sumOf s n ≡ total (unstated (take n s))
+pub sum-words : (s : List ℕ) (n : ℕ) → 20 ≤ n → n ≤ length s → sumOf s n ≡ total (checksumZeroed (take n s))
 sum-words s n h l =
     let m : 20 + (n - 20) ≡ n = omega arith in
     let c : length (take 20 s) ≡ 20 = length-take-le 20 s (omega arith) in
     let a : take n s ≡ take 20 s ++ take (n - 20) (drop 20 s) = ap (λ (k : ℕ). take k s) (sym m) ∙ take-add 20 (n - 20) s in
     let d : drop 20 (take n s) ≡ take (n - 20) (drop 20 s) = ap (drop 20) a ∙ drop-at (take 20 s) (take (n - 20) (drop 20 s)) 20 c in
-    rw (total-unstated (take n s), take-take 16 n s (omega arith), d, ← sum-after s (n - 20) (omega arith), m)
+    rw (total-zeroed (take n s), take-take 16 n s (omega arith), d, ← sum-after s (n - 20) (omega arith), m)
 
 -- "A field of 0 means none is stated": the field is 0 or the sum.
-sum-stated : (s : List ℕ) → sumFits s ≡ true → (checksumOf s ≡ 0) ⊎ (checksumOf s ≡ spanSum s)
-unfolding sumFits
+sum-stated : (s : List ℕ) → checksumMatches s ≡ true → (checksumOf s ≡ 0) ⊎ (checksumOf s ≡ spanSum s)
+unfolding checksumMatches
 sum-stated s e = go (eqb (checksumOf s) 0) refl e
   where
     go : (b : Bool) → eqb (checksumOf s) 0 ≡ b → cond b true (eqb (checksumOf s) (spanSum s)) ≡ true → (checksumOf s ≡ 0) ⊎ (checksumOf s ≡ spanSum s)
     go true q f = inl (eqb-true _ 0 q)
     go false q f = inr (eqb-true _ _ f)
 
-stated-sum : (s : List ℕ) → (checksumOf s ≡ 0) ⊎ (checksumOf s ≡ spanSum s) → sumFits s ≡ true
-unfolding sumFits
+stated-sum : (s : List ℕ) → (checksumOf s ≡ 0) ⊎ (checksumOf s ≡ spanSum s) → checksumMatches s ≡ true
+unfolding checksumMatches
 stated-sum s (inl z) = rw (eq-eqb (checksumOf s) 0 z)
 stated-sum s (inr q) = go (eqb (checksumOf s) 0)
   where
@@ -201,10 +203,10 @@ module _ (s : List ℕ) (long : 20 ≤ offset s + len s) (fits : offset s + len 
   unfolding spanSum
   same-sum = rw (sum-words s (offset s + len s) long fits)
 
-  words-sum : sumFits whole-span ≡ true → (checksum s ≡ 0) ⊎ (checksum s ≡ sumOf s (offset s + len s) % 4294967296)
+  words-sum : checksumMatches whole-span ≡ true → (checksum s ≡ 0) ⊎ (checksum s ≡ sumOf s (offset s + len s) % 4294967296)
   words-sum e = rw (same-checksum, same-sum) at (sum-stated whole-span e)
 
-  sum-fit : (checksum s ≡ 0) ⊎ (checksum s ≡ sumOf s (offset s + len s) % 4294967296) → sumFits whole-span ≡ true
+  sum-fit : (checksum s ≡ 0) ⊎ (checksum s ≡ sumOf s (offset s + len s) % 4294967296) → checksumMatches whole-span ≡ true
   sum-fit e = stated-sum whole-span (rw (same-checksum, same-sum) e)
 
 well-formed : (s : List ℕ) (c : Component) → Formed s c → WellFormedHeader s (length (beforeZero (nameField s)))
@@ -216,12 +218,12 @@ well-formed s c f =
     record {
       magic = eq-true _ _ (f .magic);
       header-fits = f .long;
-      offset-least = f .least;
-      offset-most = f .most;
+      offset-min = f .least;
+      offset-max = f .most;
       multiple = sixteens (offset s) (omega (arith, f .least)) (f .whole);
       span-fits = f .fits;
-      name-least = d .least;
-      name-most = d .most;
+      name-min = d .least;
+      name-max = d .most;
       in-field = omega (arith, d .inside, l);
       letters = λ j h. rw (nth s o j (omega (arith, d .inside, l))) at (d .letters j h);
       zeros = λ j h k. sym (nth s o j k) ∙ d .zeros j h (omega (arith, l));
@@ -233,32 +235,32 @@ field-words s n w =
     let o : offset s ≤ length s = omega (arith, w .span-fits) in
     let l = field-length s o in
     record {
-      least = w .name-least;
-      most = w .name-most;
+      least = w .name-min;
+      most = w .name-max;
       inside = omega (arith, w .in-field, l);
       letters = λ j h. rw (nth s o j (omega (arith, w .in-field))) (w .letters j h);
       zeros = λ j h k. nth s o j (omega (arith, l)) ∙ w .zeros j h (omega (arith, l));
     }
 
--- Well formed is what document 01's tests accept (`headed`) and whose checksum is 0 or the sum of the span.
+-- Well formed is what document 01's tests accept (`judgeSkippingSum`) and whose checksum is 0 or the sum of the span.
 pub well-formed-exactly : (s : List ℕ) (c : Component)
-    → (judge s ≡ some c) ↔ ((headed s ≡ some c) × ((c .checksum ≡ 0) ⊎ (c .checksum ≡ spanSum (take (span c) s))))
-well-formed-exactly s c = (there, λ h. judge-headed s (some c) (h .0) ∙ back (h .0) (h .1))
+    → (judge s ≡ some c) ↔ ((judgeSkippingSum s ≡ some c) × ((c .checksum ≡ 0) ⊎ (c .checksum ≡ spanSum (take (spanLength c) s))))
+well-formed-exactly s c = (there, λ h. judge-unsummed s (some c) (h .0) ∙ back (h .0) (h .1))
   where
-    stated : headed s ≡ some c → checksumOf (take (span c) s) ≡ c .checksum
-    stated h = let f = headed-fits s c h in
-        be-same 4 s (take (span c) s) 16 (λ j a b. getD-take (span c) s j 0 (omega (arith, f))) ∙ headed-read s c h
+    stated : judgeSkippingSum s ≡ some c → checksumOf (take (spanLength c) s) ≡ c .checksum
+    stated h = let f = unsummed-fits-region s c h in
+        be-same 4 s (take (spanLength c) s) 16 (λ j a b. getD-take (spanLength c) s j 0 (omega (arith, f))) ∙ unsummed-of s c h
 
-    back : headed s ≡ some c → (c .checksum ≡ 0) ⊎ (c .checksum ≡ spanSum (take (span c) s)) → summedOf s (some c) ≡ some c
-    back h w = rw (stated-sum (take (span c) s) (rw (stated h) w))
+    back : judgeSkippingSum s ≡ some c → (c .checksum ≡ 0) ⊎ (c .checksum ≡ spanSum (take (spanLength c) s)) → summedOf s (some c) ≡ some c
+    back h w = rw (stated-sum (take (spanLength c) s) (rw (stated h) w))
 
-    there : judge s ≡ some c → (headed s ≡ some c) × ((c .checksum ≡ 0) ⊎ (c .checksum ≡ spanSum (take (span c) s)))
+    there : judge s ≡ some c → (judgeSkippingSum s ≡ some c) × ((c .checksum ≡ 0) ⊎ (c .checksum ≡ spanSum (take (spanLength c) s)))
     there e =
-        let h : headed s ≡ some c = headed-numbers s (judge-magic s c e) ∙ judge-numbers s c e in
-        (h, rw (stated h) at (sum-stated (take (span c) s) (fits-stated h e)))
+        let h : judgeSkippingSum s ≡ some c = unsummed-numbers s (judge-magic s c e) ∙ judge-by-numbers s c e in
+        (h, rw (stated h) at (sum-stated (take (spanLength c) s) (fits-stated h e)))
       where
-        fits-stated : headed s ≡ some c → judge s ≡ some c → sumFits (take (span c) s) ≡ true
-        fits-stated h e = cond-some (sumFits (take (span c) s)) c c (sym (judge-headed s (some c) h) ∙ e) .0
+        fits-stated : judgeSkippingSum s ≡ some c → judge s ≡ some c → checksumMatches (take (spanLength c) s) ≡ true
+        fits-stated h e = cond-some (checksumMatches (take (spanLength c) s)) c c (sym (judge-unsummed s (some c) h) ∙ e) .0
 
 -- The definition's component is the paper's, for the length of the name.
 same-component : (s : List ℕ) (n : ℕ) → n ≤ offset s - 24 → beforeZero (nameField s) ≡ take n (nameField s) → componentOf s ≡ component s n
@@ -273,12 +275,12 @@ judge-words s n w =
     unformed s (component s n) (record {
       magic = rw (w .magic) (eq-refl magic);
       long = w .header-fits;
-      least = w .offset-least;
-      most = w .offset-most;
+      least = w .offset-min;
+      most = w .offset-max;
       whole = let (k, e) = w .multiple in whole (offset s) k e;
       fits = w .span-fits;
       named = field-fit (nameField s) n d;
-      summed = sum-fit s (omega (arith, w .offset-least)) (w .span-fits) (w .sum);
+      summed = sum-fit s (omega (arith, w .offset-min)) (w .span-fits) (w .sum);
       read = same-component s n (omega (arith, w .in-field)) (field-before (nameField s) n d);
     })
 

@@ -1,4 +1,4 @@
--- Laws of names and their fields: as a loop over the indices meets them, test by test, and what the length of a name tells.
+-- Laws of names and their fields: as a loop over the indices meets them, test by test, and what follows from the length of a name.
 use Prim.Native.Nat.{ℕ, suc, _≤_, _<_, min}
 use mathlib.Core.Path.{_≡_, refl, sym, ap, _∙_}
 use mathlib.Core.Bool.{Bool, true, false, cond, true≢false, false≢true}
@@ -8,10 +8,10 @@ use native.Mathlib.Decide.{decLe}
 use lib.ListN.{length, take, drop, getD}
 use lib.Dec.{leb, eqb}
 use borrow.Author.Tests.{eqb-true, le-leb, leb-true, lt-ltb, ltb-true}
-use Rattle.number.specs.Tests.{all}
-use Rattle.number.specs.Letters.{isPrintable, printed}
-use Rattle.number.proofs.Passing.{fails, passes, every-last}
-use Rattle.number.proofs.Letters.{printed-le, all-printed, printed-all}
+use Rattle.bytes_read.specs.Tests.{all}
+use Rattle.bytes_read.specs.Printable.{isPrintable, printablePrefix}
+use Rattle.bytes_read.proofs.Passing.{fails, passes, all-true-last}
+use Rattle.bytes_read.proofs.Printable.{prefix-le, all-prefix, prefix-all}
 use Rattle.component.specs.Names.{isZero, nameTests, nameFits, beforeZero, fieldTests, fieldFits, nameLength}
 
 -- beforeZero
@@ -40,13 +40,13 @@ pub name-bad : (n : List ℕ) (k : ℕ) → getD (nameTests n) k true ≡ false 
 unfolding nameFits
 name-bad n k h = rw (fails k (nameTests n) h)
 
-pub name-rest : (n : List ℕ) → 1 ≤ length n → length n ≤ 255 → eqb (min (length n) (length (printed n))) (length n) ≡ nameFits n
+pub name-rest : (n : List ℕ) → 1 ≤ length n → length n ≤ 255 → eqb (min (length n) (length (printablePrefix n))) (length n) ≡ nameFits n
 unfolding nameFits nameTests
 name-rest n l m =
-    let e : min (length n) (length (printed n)) ≡ length (printed n) = omega (arith, printed-le n) in
-    rw (le-leb 1 (length n) l, le-leb (length n) 255 m, e) (printed-all n ∙ sym (every-last (all isPrintable n)))
+    let e : min (length n) (length (printablePrefix n)) ≡ length (printablePrefix n) = omega (arith, prefix-le n) in
+    rw (le-leb 1 (length n) l, le-leb (length n) 255 m, e) (prefix-all n ∙ sym (all-true-last (all isPrintable n)))
 
--- A fit field holds a name, and its length tells it.
+-- A fit field holds a name, which its length gives.
 
 pub field-name : (f : List ℕ) → fieldFits f ≡ true → nameFits (beforeZero f) ≡ true
 unfolding fieldFits fieldTests
@@ -76,36 +76,42 @@ length-pos f n q h = go (fieldFits f) refl q
     go true e p = e
     go false e p = absurd (h p)
 
--- The bytes before the first zero of a fit field are those of 0x21 to 0x7E at its start; and where only zeros follow these, they are all that stands before the first zero.
+-- The bytes before the first zero of a fit field are those of 0x21 to 0x7E at its start; and where only zeros follow these, they are all that stands before
+-- the first zero.
 
-printed-before : (f : List ℕ) → all isPrintable (beforeZero f) ≡ true → length (beforeZero f) < length f → printed f ≡ beforeZero f
-unfolding all printed beforeZero
+printed-before : (f : List ℕ) → all isPrintable (beforeZero f) ≡ true → length (beforeZero f) < length f → printablePrefix f ≡ beforeZero f
+unfolding all printablePrefix beforeZero
 printed-before [] p h = absurd (omega arith)
 printed-before (b ∷ f) p h = go (eqb b 0) refl (isPrintable b) refl p h (printed-before f)
   where
-    go : (z : Bool) → eqb b 0 ≡ z → (t : Bool) → isPrintable b ≡ t → all isPrintable (cond z [] (b ∷ beforeZero f)) ≡ true → length (cond z [] (b ∷ beforeZero f)) < suc (length f)
-        → (all isPrintable (beforeZero f) ≡ true → length (beforeZero f) < length f → printed f ≡ beforeZero f) → cond t (b ∷ printed f) [] ≡ cond z [] (b ∷ beforeZero f)
+    go : (z : Bool) → eqb b 0 ≡ z → (t : Bool) → isPrintable b ≡ t → all isPrintable (cond z [] (b ∷ beforeZero f)) ≡ true
+        → length (cond z [] (b ∷ beforeZero f)) < suc (length f)
+        → (all isPrintable (beforeZero f) ≡ true → length (beforeZero f) < length f → printablePrefix f ≡ beforeZero f)
+        → cond t (b ∷ printablePrefix f) [] ≡ cond z [] (b ∷ beforeZero f)
     go true q true r p h ih = absurd (omega (arith, eqb-true b 0 q, leb-true 0x21 b (passes 0 (leb 0x21 b ∷ leb b 0x7E ∷ []) r)))
     go true q false r p h ih = refl
     go false q true r p h ih = ap (λ (l : List ℕ). b ∷ l) (ih (rw r at p) (omega arith))
     go false q false r p h ih = absurd (false≢true (rw r at p))
 
-before-printed : (f : List ℕ) → length (printed f) < length f → all isZero (drop (length (printed f)) f) ≡ true → beforeZero f ≡ printed f
-unfolding all printed beforeZero
+before-printed : (f : List ℕ) → length (printablePrefix f) < length f → all isZero (drop (length (printablePrefix f)) f) ≡ true
+    → beforeZero f ≡ printablePrefix f
+unfolding all printablePrefix beforeZero
 before-printed [] h a = absurd (omega arith)
 before-printed (b ∷ f) h a = go (eqb b 0) refl (isPrintable b) refl h a (before-printed f)
   where
-    go : (z : Bool) → eqb b 0 ≡ z → (t : Bool) → isPrintable b ≡ t → length (cond t (b ∷ printed f) []) < suc (length f) → all isZero (drop (length (cond t (b ∷ printed f) [])) (b ∷ f)) ≡ true
-        → (length (printed f) < length f → all isZero (drop (length (printed f)) f) ≡ true → beforeZero f ≡ printed f) → cond z [] (b ∷ beforeZero f) ≡ cond t (b ∷ printed f) []
+    go : (z : Bool) → eqb b 0 ≡ z → (t : Bool) → isPrintable b ≡ t → length (cond t (b ∷ printablePrefix f) []) < suc (length f)
+        → all isZero (drop (length (cond t (b ∷ printablePrefix f) [])) (b ∷ f)) ≡ true
+        → (length (printablePrefix f) < length f → all isZero (drop (length (printablePrefix f)) f) ≡ true → beforeZero f ≡ printablePrefix f)
+        → cond z [] (b ∷ beforeZero f) ≡ cond t (b ∷ printablePrefix f) []
     go true q true r h a ih = absurd (omega (arith, eqb-true b 0 q, leb-true 0x21 b (passes 0 (leb 0x21 b ∷ leb b 0x7E ∷ []) r)))
     go true q false r h a ih = refl
     go false q true r h a ih = ap (λ (l : List ℕ). b ∷ l) (ih (omega arith) a)
     go false q false r h a ih = absurd (false≢true (rw q at a))
 
 -- The length of the name in a field, by the number n of bytes of 0x21 to 0x7E at its start.
-module _ (f : List ℕ) (n : ℕ) (e : n ≡ min (length f) (length (printed f))) where
-  counted : length (printed f) ≡ n
-  counted = omega (arith, printed-le f)
+module _ (f : List ℕ) (n : ℕ) (e : n ≡ min (length f) (length (printablePrefix f))) where
+  counted : length (printablePrefix f) ≡ n
+  counted = omega (arith, prefix-le f)
 
   -- What the tests say of a fit field.
   fit : fieldFits f ≡ true → (length (beforeZero f) ≡ n) × (n < length f) × (1 ≤ n) × (n ≤ 255) × (all isZero (drop n f) ≡ true)
@@ -130,19 +136,19 @@ module _ (f : List ℕ) (n : ℕ) (e : n ≡ min (length f) (length (printed f))
   pub field-long : 255 < n → 0 ≡ nameLength f
   field-long h = unfit (λ q. omega (arith, fit q .3))
 
-  pub field-open : length f ≤ n → 0 ≡ nameLength f
-  field-open h = unfit (λ q. omega (arith, fit q .1))
+  pub field-without-zero : length f ≤ n → 0 ≡ nameLength f
+  field-without-zero h = unfit (λ q. omega (arith, fit q .1))
 
-  pub field-stained : all isZero (drop n f) ≡ false → 0 ≡ nameLength f
-  field-stained h = unfit (λ q. true≢false (sym (fit q .4) ∙ h))
+  pub field-padding-not-zero : all isZero (drop n f) ≡ false → 0 ≡ nameLength f
+  field-padding-not-zero h = unfit (λ q. true≢false (sym (fit q .4) ∙ h))
 
   pub field-fit : n ≤ 255 → n < length f → all isZero (drop n f) ≡ true → n ≡ nameLength f
   unfolding nameLength fieldFits fieldTests nameFits nameTests
   field-fit h l z = by (decLe 1 n)
     where
-      same : beforeZero f ≡ printed f
+      same : beforeZero f ≡ printablePrefix f
       same = before-printed f (omega (arith, counted)) (rw counted z)
 
       by : Dec (1 ≤ n) → n ≡ nameLength f
       by (no g) = omega (arith, unfit (λ q. g (fit q .2)))
-      by (yes g) = rw (same, counted, lt-ltb n (length f) l, le-leb 1 n g, le-leb n 255 h, all-printed f, z)
+      by (yes g) = rw (same, counted, lt-ltb n (length f) l, le-leb 1 n g, le-leb n 255 h, all-prefix f, z)

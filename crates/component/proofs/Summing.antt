@@ -9,7 +9,7 @@ use lib.ListN.{length, getD, take, drop, take-append-drop}
 use lib.Dec.{eqb}
 use borrow.Author.Tests.{eq-eqb, ne-eqb, eqb-true}
 use lib.Seq.{take-suc, take-all, take-add, drop-drop, getD-drop}
-use Rattle.component.specs.Sums.{checksumOf, total, unstated, spanSum, sumFits, ownBytes}
+use Rattle.component.specs.Sums.{checksumOf, total, checksumZeroed, spanSum, checksumMatches, checksumByteSum}
 
 pub total-append : (u v : List ℕ) → total (u ++ v) ≡ total u + total v
 unfolding total
@@ -17,9 +17,9 @@ total-append [] v = omega arith
 total-append (b ∷ u) v = omega (arith, total-append u v)
 
 -- The bytes before and after the checksum are what counts.
-pub total-unstated : (s : List ℕ) → total (unstated s) ≡ total (take 16 s) + total (drop 20 s)
+pub total-zeroed : (s : List ℕ) → total (checksumZeroed s) ≡ total (take 16 s) + total (drop 20 s)
 unfolding total
-total-unstated s = omega (arith, total-append (take 16 s) (0 ∷ 0 ∷ 0 ∷ 0 ∷ drop 20 s))
+total-zeroed s = omega (arith, total-append (take 16 s) (0 ∷ 0 ∷ 0 ∷ 0 ∷ drop 20 s))
 
 -- One byte more, and all.
 
@@ -42,7 +42,8 @@ sum-parts : (t u : ℕ) → (t % 4294967296 + u % 4294967296) % 4294967296 ≡ (
 sum-parts t u = omega arith
 
 -- Some bytes more.
-pub sum-block : (s : List ℕ) (i n : ℕ) {t u : ℕ} → t ≡ total (take i s) % 4294967296 → u ≡ total (take n (drop i s)) % 4294967296 → (t + u) % 4294967296 ≡ total (take (i + n) s) % 4294967296
+pub sum-block : (s : List ℕ) (i n : ℕ) {t u : ℕ} → t ≡ total (take i s) % 4294967296 → u ≡ total (take n (drop i s)) % 4294967296
+    → (t + u) % 4294967296 ≡ total (take (i + n) s) % 4294967296
 sum-block s i n e f = rw (e, f, sum-parts (total (take i s)) (total (take n (drop i s))), take-add i n s, total-append (take i s) (take n (drop i s)))
 
 -- With its own bytes counted, the checksum stands on both sides.
@@ -55,31 +56,33 @@ four (a ∷ b ∷ []) = omega arith
 four (a ∷ b ∷ c ∷ []) = omega arith
 four (a ∷ b ∷ c ∷ d ∷ l) = omega arith
 
-total-own : (s : List ℕ) → total s ≡ total (unstated s) + ownBytes s
-total-own s =
+total-checksum-bytes : (s : List ℕ) → total s ≡ total (checksumZeroed s) + checksumByteSum s
+total-checksum-bytes s =
     let d : drop 4 (drop 16 s) ≡ drop 20 s = drop-drop 4 16 s in
-    let e : total (drop 16 s) ≡ total (take 4 (drop 16 s)) + total (drop 4 (drop 16 s)) = ap total (sym (take-append-drop 4 (drop 16 s))) ∙ total-append (take 4 (drop 16 s)) (drop 4 (drop 16 s)) in
+    let e : total (drop 16 s) ≡ total (take 4 (drop 16 s)) + total (drop 4 (drop 16 s)) =
+    ap total (sym (take-append-drop 4 (drop 16 s))) ∙ total-append (take 4 (drop 16 s)) (drop 4 (drop 16 s)) in
     let f : total s ≡ total (take 16 s) + total (drop 16 s) = ap total (sym (take-append-drop 16 s)) ∙ total-append (take 16 s) (drop 16 s) in
-    omega (arith, f, e, ap total d, four (drop 16 s), total-unstated s, getD-drop 16 s 0 0, getD-drop 16 s 1 0, getD-drop 16 s 2 0, getD-drop 16 s 3 0)
+    omega (arith, f, e, ap total d, four (drop 16 s), total-zeroed s, getD-drop 16 s 0 0, getD-drop 16 s 1 0, getD-drop 16 s 2 0, getD-drop 16 s 3 0)
 
 -- So the comparison of the two is that of the stated sum and the span's.
-pub sum-compared : (s : List ℕ) (x : ℕ) → x < 4294967296 → {t u : ℕ} → t ≡ total s % 4294967296 → u ≡ (x + ownBytes s) % 4294967296 → eqb t u ≡ eqb x (spanSum s)
+pub sum-compared : (s : List ℕ) (x : ℕ) → x < 4294967296 → {t u : ℕ} → t ≡ total s % 4294967296 → u ≡ (x + checksumByteSum s) % 4294967296
+    → eqb t u ≡ eqb x (spanSum s)
 unfolding spanSum
-sum-compared s x h {t} {u} e f = go (eqb x (total (unstated s) % 4294967296)) refl
+sum-compared s x h {t} {u} e f = go (eqb x (total (checksumZeroed s) % 4294967296)) refl
   where
-    same : x ≡ total (unstated s) % 4294967296 → t ≡ u
-    same q = omega (arith, e, f, q, total-own s)
+    same : x ≡ total (checksumZeroed s) % 4294967296 → t ≡ u
+    same q = omega (arith, e, f, q, total-checksum-bytes s)
 
-    back : t ≡ u → x ≡ total (unstated s) % 4294967296
-    back q = omega (arith, e, f, q, h, total-own s)
+    back : t ≡ u → x ≡ total (checksumZeroed s) % 4294967296
+    back q = omega (arith, e, f, q, h, total-checksum-bytes s)
 
-    go : (b : Bool) → eqb x (total (unstated s) % 4294967296) ≡ b → eqb t u ≡ b
+    go : (b : Bool) → eqb x (total (checksumZeroed s) % 4294967296) ≡ b → eqb t u ≡ b
     go true q = eq-eqb t u (same (eqb-true x _ q))
     go false q = ne-eqb t u (λ z. true≢false (sym (eq-eqb x _ (back z)) ∙ q))
 
 pub stated-fits : (s : List ℕ) (x : ℕ) → x ≡ checksumOf s → (x ≡ 0 → ⊥) → x < 4294967296
-    → {t o u : ℕ} → t ≡ total s % 4294967296 → o ≡ ownBytes s → u ≡ (x + o) % 4294967296 → eqb t u ≡ sumFits s
-unfolding sumFits
+    → {t o u : ℕ} → t ≡ total s % 4294967296 → o ≡ checksumByteSum s → u ≡ (x + o) % 4294967296 → eqb t u ≡ checksumMatches s
+unfolding checksumMatches
 stated-fits s x q n h e o f = sum-compared s x h e (f ∙ rw o) ∙ rw (← q, ne-eqb x 0 n)
 
 -- Bytes are at most 255.

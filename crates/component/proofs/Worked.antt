@@ -9,15 +9,15 @@ use mathlib.Core.Option.{Option, some, none}
 use lib.ListN.{take, drop, getD, replicate}
 use lib.Seq.{getD-take, getD-drop}
 use borrow.Author.Tests.{eqb-true}
-use Rattle.number.specs.Number.{beBytes}
-use Rattle.number.specs.Tests.{every}
-use Rattle.number.specs.Letters.{isPrintable}
+use Rattle.bytes_read.specs.Number.{beBytes}
+use Rattle.bytes_read.specs.Tests.{allTrue}
+use Rattle.bytes_read.specs.Printable.{isPrintable}
 use Rattle.component.specs.Names.{isZero, nameFits}
 use Rattle.component.specs.Sums.{spanSum}
-use Rattle.component.specs.Component.{Component, magic, judge, headed}
-use Rattle.component.specs.Table.{letter, sumOf, WellFormedHeader}
+use Rattle.component.specs.Component.{Component, magic, judge, judgeSkippingSum}
+use Rattle.component.specs.Table.{nameByte, sumOf, WellFormedHeader}
 use Rattle.component.proofs.Exactly.{all-at, printable, judge-exactly}
-use Rattle.component.proofs.Opened.{judging}
+use Rattle.component.proofs.Opened.{judgeDefinitions}
 
 -- LARCHIVE, letter by letter.
 abbrev larchive : List ℕ
@@ -42,32 +42,32 @@ part : List ℕ
 part = stating 0 0 0x04 0x9A
 
 judged-part : judge part ∷ judge (stating 0 0 0 0) ∷ [] ≡ some (cal12 1178) ∷ some (cal12 0) ∷ []
-unfolding judging part
+unfolding judgeDefinitions part
 judged-part = refl
 
 -- A sum one off, or wrong in any of its bytes, is ill formed; by document 01's tests alone the header is well formed.
 wrong-sums :
     map judge (stating 0 0 0x04 0x9B ∷ stating 0 0 0x04 0x99 ∷ stating 0 0 0x05 0x9A ∷ stating 0 1 0x04 0x9A ∷ stating 1 0 0x04 0x9A ∷ stating 0 0 0 0x9A ∷ [])
     ≡ none ∷ none ∷ none ∷ none ∷ none ∷ none ∷ []
-unfolding judging
+unfolding judgeDefinitions
 wrong-sums = refl
 
-unsummed-part : headed (stating 0 0 0x04 0x9B) ∷ headed (stating 1 2 3 4) ∷ [] ≡ some (cal12 1179) ∷ some (cal12 0x01020304) ∷ []
-unfolding judging
+unsummed-part : judgeSkippingSum (stating 0 0 0x04 0x9B) ∷ judgeSkippingSum (stating 1 2 3 4) ∷ [] ≡ some (cal12 1179) ∷ some (cal12 0x01020304) ∷ []
+unfolding judgeDefinitions
 unsummed-part = refl
 
 -- In the papers' words: the header is well formed, with a name of six bytes and the right sum.
 words-of-part : WellFormedHeader part 6
-unfolding judging part sumOf
+unfolding judgeDefinitions part sumOf
 words-of-part = record {
   magic = refl;
   header-fits = omega arith;
-  offset-least = omega arith;
-  offset-most = omega arith;
+  offset-min = omega arith;
+  offset-max = omega arith;
   multiple = (1, refl);
   span-fits = omega arith;
-  name-least = omega arith;
-  name-most = omega arith;
+  name-min = omega arith;
+  name-max = omega arith;
   in-field = omega arith;
   letters = printed;
   zeros = padded;
@@ -77,12 +77,12 @@ words-of-part = record {
     byte : (p w j : ℕ) → j < w → getD (take w (drop p part)) j 0 ≡ getD part (p + j) 0
     byte p w j h = getD-take w (drop p part) j 0 h ∙ getD-drop p part j 0
 
-    printed : (j : ℕ) → j < 6 → (0x21 ≤ letter part j) × (letter part j ≤ 0x7E)
+    printed : (j : ℕ) → j < 6 → (0x21 ≤ nameByte part j) × (nameByte part j ≤ 0x7E)
     printed j h =
         let field : List ℕ = take 6 (drop 24 part) in
         rw (byte 24 6 j h) at (printable (getD field j 0) (all-at isPrintable field refl j h))
 
-    padded : (j : ℕ) → 6 ≤ j → 24 + j < 40 → letter part j ≡ 0
+    padded : (j : ℕ) → 6 ≤ j → 24 + j < 40 → nameByte part j ≡ 0
     padded j h k =
         let rest : List ℕ = take 10 (drop 30 part) in
         let q : 30 + (j - 6) ≡ 24 + j = omega arith in
@@ -91,7 +91,7 @@ words-of-part = record {
 
 -- So the judge finds it.
 found-part : judge part ≡ some (cal12 1178)
-unfolding judging part
+unfolding judgeDefinitions part
 found-part = judge-exactly part (cal12 1178) .1 (6, words-of-part, refl)
 
 -- A part that begins with the bytes m: len, type, checksum, offset, and what follows.
@@ -174,18 +174,18 @@ same false (some c) = false
 abbrev agrees : Bool × List ℕ → Bool
 agrees (b, s) = same b (judge s)
 
-worked : every (map agrees cases) ≡ true
-unfolding judging
+worked : allTrue (map agrees cases) ≡ true
+unfolding judgeDefinitions
 worked = refl
 
 -- A sum has 32 bits, and the checksum's own bytes do not count, nor does any byte past the end.
 sums : map spanSum ((4294967294 ∷ 1 ∷ []) ∷ (4294967295 ∷ 1 ∷ []) ∷ (replicate 15 1 ++ (2 ∷ 9 ∷ 9 ∷ 9 ∷ 9 ∷ 5 ∷ [])) ∷ [] ∷ replicate 18 1 ∷ [])
     ≡ 4294967295 ∷ 0 ∷ 22 ∷ 0 ∷ 16 ∷ []
-unfolding judging
+unfolding judgeDefinitions
 sums = refl
 
 -- A fit name by itself: 1 to 255 bytes of 0x21 to 0x7E.
 names : map nameFits ([] ∷ named 1 0 ∷ named 255 0 ∷ named 256 0 ∷ (0x21 ∷ []) ∷ (0x7E ∷ []) ∷ (0x20 ∷ []) ∷ (0x7F ∷ []) ∷ (0x61 ∷ 0 ∷ []) ∷ [])
     ≡ false ∷ true ∷ true ∷ false ∷ true ∷ true ∷ false ∷ false ∷ false ∷ []
-unfolding judging
+unfolding judgeDefinitions
 names = refl

@@ -5,12 +5,12 @@ use mathlib.Core.Bool.{Bool, false, cond}
 use mathlib.Core.Option.{Option, some, none}
 use lib.ListN.{length, take, drop}
 use lib.Dec.{leb, eqb}
-use Rattle.number.specs.Number.{be}
-use Rattle.number.specs.Bytes.{eqBytes}
-use Rattle.number.specs.Tests.{every}
+use Rattle.bytes_read.specs.Number.{be}
+use Rattle.bytes_read.specs.Bytes.{eqBytes}
+use Rattle.bytes_read.specs.Tests.{allTrue}
 use Rattle.component.specs.Names.{beforeZero, fieldFits}
-use Rattle.component.specs.Sums.{checksumOf, sumFits}
-use Rattle.component.specs.declared.Header.{Header}
+use Rattle.component.specs.Sums.{checksumOf, checksumMatches}
+use Rattle.cbfs_types.specs.declared.Header.{Header}
 use Rattle.component.specs.declared.Judged.{Judged}
 use Rattle.component.specs.declared.Judged.the-variants.{WellFormed, IllFormed}
 
@@ -47,9 +47,9 @@ pub record Component : Type 0 where
   pub name : List ℕ
   pub content : List ℕ
 
--- How many bytes the span has.
-abbrev pub span : Component → ℕ
-span c = c .offset + c .len
+-- How many bytes the span has. "Span" is document 01's term: the offset + len bytes from a component's place.
+abbrev pub spanLength : Component → ℕ
+spanLength c = c .offset + c .len
 
 -- What stands at the start of the part, where it is well formed.
 unfoldable pub componentOf : List ℕ → Component
@@ -75,31 +75,31 @@ numberTests s o l =
 
 -- What a well-formed header meets: these, and no wrong sum of its span is stated (request 5).
 unfoldable pub headerTests : List ℕ → ℕ → ℕ → List Bool
-headerTests s o l = numberTests s o l ++ (sumFits (take (o + l) s) ∷ [])
+headerTests s o l = numberTests s o l ++ (checksumMatches (take (o + l) s) ∷ [])
 
 unfoldable pub wellFormed : List ℕ → Bool
-wellFormed s = every (headerTests s (offsetOf s) (lenOf s))
+wellFormed s = allTrue (headerTests s (offsetOf s) (lenOf s))
 
 -- The component by its fields alone, for a part that is known to begin with the magic.
-unfoldable pub fields : List ℕ → Option Component
-fields s = cond (wellFormed s) (some (componentOf s)) none
+unfoldable pub judgeAfterMagic : List ℕ → Option Component
+judgeAfterMagic s = cond (wellFormed s) (some (componentOf s)) none
 
 -- The component that stands at the start of the part, if one does.
 unfoldable pub judge : List ℕ → Option Component
-judge s = cond (startsWithMagic s) (fields s) none
+judge s = cond (startsWithMagic s) (judgeAfterMagic s) none
 
 -- The same by document 01's tests alone, the sum not looked at: for a walk, which takes the sum last, and for a place whose sum was taken already.
 
-unfoldable pub numbers : List ℕ → Option Component
-numbers s = cond (every (numberTests s (offsetOf s) (lenOf s))) (some (componentOf s)) none
+unfoldable pub judgeNumbers : List ℕ → Option Component
+judgeNumbers s = cond (allTrue (numberTests s (offsetOf s) (lenOf s))) (some (componentOf s)) none
 
-unfoldable pub headed : List ℕ → Option Component
-headed s = cond (startsWithMagic s) (numbers s) none
+unfoldable pub judgeSkippingSum : List ℕ → Option Component
+judgeSkippingSum s = cond (startsWithMagic s) (judgeNumbers s) none
 
 -- What the judge answers.
 
 abbrev pub headerOf : Component → Header
-headerOf c = record { offset = c .offset; len = c .len; kind = c .kind; checksum = c .checksum; named = length (c .name) }
+headerOf c = record { offset = c .offset; len = c .len; kind = c .kind; checksum = c .checksum; namelen = length (c .name) }
 
 abbrev pub judged : Option Component → Judged
 judged none = IllFormed

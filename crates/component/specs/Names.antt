@@ -4,8 +4,8 @@ use mathlib.Core.List.{List, [], _∷_}
 use mathlib.Core.Bool.{Bool, cond}
 use lib.ListN.{length, drop}
 use lib.Dec.{ltb, leb, eqb}
-use Rattle.number.specs.Tests.{every, all}
-use Rattle.number.specs.Letters.{isPrintable}
+use Rattle.bytes_read.specs.Tests.{allTrue, all}
+use Rattle.bytes_read.specs.Printable.{isPrintable}
 
 abbrev pub isZero : ℕ → Bool
 isZero b = eqb b 0
@@ -16,7 +16,7 @@ unfoldable pub nameTests : List ℕ → List Bool
 nameTests n = leb 1 (length n) ∷ leb (length n) 255 ∷ all isPrintable n ∷ []
 
 unfoldable pub nameFits : List ℕ → Bool
-nameFits n = every (nameTests n)
+nameFits n = allTrue (nameTests n)
 
 -- The bytes before the first zero.
 unfoldable pub beforeZero : List ℕ → List ℕ
@@ -28,7 +28,7 @@ unfoldable pub fieldTests : List ℕ → List ℕ → List Bool
 fieldTests f n = ltb (length n) (length f) ∷ nameFits n ∷ all isZero (drop (length n) f) ∷ []
 
 unfoldable pub fieldFits : List ℕ → Bool
-fieldFits f = every (fieldTests f (beforeZero f))
+fieldFits f = allTrue (fieldTests f (beforeZero f))
 
 -- The length of the name in the field f, or 0 where the field is unfit.
 unfoldable pub nameLength : List ℕ → ℕ

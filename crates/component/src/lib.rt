@@ -1,32 +1,27 @@
 // A CBFS component: the magic, the header's judge, and names (document 01, "Components and the two walks").
 // A part is what begins at a component's place and goes up to the region's end.
+use cbfs_types::FIELD_UNIT;
+use cbfs_types::HEADER_LEN;
+use cbfs_types::Header;
+use cbfs_types::NAME_MAX;
+use cbfs_types::OFFSET_MAX;
+use cbfs_types::OFFSET_MIN;
 ghost use mathlib.Core.Path.{_≡_};
 ghost use Prim.Native.Nat.{_+_, _%_};
-ghost use Rattle.number.specs.Tests.{all};
+ghost use Rattle.bytes_read.specs.Tests.{all};
 ghost use Rattle.component.specs.Names.{isZero, nameFits, nameLength};
-ghost use Rattle.component.specs.Sums.{total, ownBytes, sumFits};
-ghost use Rattle.component.specs.Component.{startsWithMagic, numbers as numbersOf, fields as fieldsOf, judge as judgeOf};
+ghost use Rattle.component.specs.Sums.{total, checksumByteSum, checksumMatches};
+ghost use Rattle.component.specs.Component.{startsWithMagic, judgeNumbers, judgeAfterMagic, judge as judgeOf};
 ghost use Rattle.component.specs.Component.{judged, nameOf, contentOf, bearsName};
 
-// The numbers of a well-formed header.
-pub struct Header {
-    pub offset: usize,
-    pub len: usize,
-    // the component's type
-    pub kind: u32,
-    // the sum that is stated, or 0
-    pub checksum: u32,
-    // the length of the name
-    pub named: usize,
-}
-
+// What the judge says of a part: the numbers of the header that it begins with, or that none well formed stands there.
 pub enum Judged {
     WellFormed(Header),
     IllFormed,
 }
 
 // The part begins with the magic. The eight bytes are compared as one number: one comparison, where a loop makes eight. Little-endian, the
-// processor's own order, it is one load too, and the hunt stays small enough to be compiled into each walk.
+// processor's own order, it is one load too, and the search stays small enough to be compiled into each walk.
 pub fn starts_with_magic(s: &[u8]) -> bool
     ensures { λ r. ⌜ r ≡ startsWithMagic (now (s .entry)) ⌝ }
     ensures kept { λ _. ⌜ now (s .exit) ≡ now (s .entry) ⌝ }
@@ -34,7 +29,7 @@ pub fn starts_with_magic(s: &[u8]) -> bool
     if s.len() < 8 {
         return false;
     }
-    number::le64(s, 0) == number::le64(b"LARCHIVE", 0)
+    bytes_read::le64(s, 0) == bytes_read::le64(b"LARCHIVE", 0)
 }
 
 // Every byte is zero.
@@ -59,10 +54,10 @@ pub fn name_fits(name: &[u8]) -> bool
     if name.len() < 1 {
         return false;
     }
-    if 255 < name.len() {
+    if NAME_MAX < name.len() {
         return false;
     }
-    number::printed(name, name.len()) == name.len()
+    bytes_read::printable_prefix(name, name.len()) == name.len()
 }
 
 // The length of the name in a name field, or 0 where the field is unfit. Each byte is read once.
@@ -70,8 +65,8 @@ pub fn name_length(f: &[u8]) -> usize
     ensures { λ r. ⌜ r ≡ nameLength (now (f .entry)) ⌝ }
     ensures kept { λ _. ⌜ now (f .exit) ≡ now (f .entry) ⌝ }
 {
-    let n = number::printed(f, f.len());
-    if 255 < n {
+    let n = bytes_read::printable_prefix(f, f.len());
+    if NAME_MAX < n {
         return 0;
     }
     if f.len() <= n {
@@ -84,95 +79,98 @@ pub fn name_length(f: &[u8]) -> usize
 }
 
 // A sum taken one byte further, as a 32-bit number.
-fn further(sum: u32, b: u8) -> u32
+fn add_byte(sum: u32, b: u8) -> u32
     ensures { λ r. ⌜ r ≡ (sum + b) % 4294967296 ⌝ }
 {
     ((sum as u64 + b as u64) % 4294967296) as u32
 }
 
 // The sum of some bytes, as a 32-bit number, one by one.
-fn few(s: &[u8]) -> u32
+fn sum_each(s: &[u8]) -> u32
     ensures { λ r. ⌜ r ≡ total (now (s .entry)) % 4294967296 ⌝ }
 {
     let mut t = 0;
     let mut i = 0;
     while i < s.len() {
-        t = further(t, s[i]);
+        t = add_byte(t, s[i]);
         i += 1;
     }
     t
 }
 
 // Two sums make one.
-fn joined(a: u32, b: u32) -> u32
+fn add_sums(a: u32, b: u32) -> u32
     ensures { λ r. ⌜ r ≡ (a + b) % 4294967296 ⌝ }
 {
     ((a as u64 + b as u64) % 4294967296) as u32
 }
 
-// The sum of all bytes, as a 32-bit number. In blocks of 64, so that the compiler adds sixteen by one instruction.
+// How many bytes are summed at a time.
+const SUM_BLOCK: usize = 64;
+
+// The sum of all bytes, as a 32-bit number. In blocks, so that the compiler adds sixteen by one instruction.
 pub fn sum(s: &[u8]) -> u32
     ensures { λ r. ⌜ r ≡ total (now (s .entry)) % 4294967296 ⌝ }
     ensures kept { λ _. ⌜ now (s .exit) ≡ now (s .entry) ⌝ }
 {
     let mut t = 0;
     let mut i = 0;
-    while i + 64 <= s.len() {
-        t = joined(t, few(&s[i..i + 64]));
-        i += 64;
+    while i + SUM_BLOCK <= s.len() {
+        t = add_sums(t, sum_each(&s[i..i + SUM_BLOCK]));
+        i += SUM_BLOCK;
     }
-    joined(t, few(&s[i..]))
+    add_sums(t, sum_each(&s[i..]))
 }
 
 // The sum of the four checksum bytes.
-fn own_bytes(s: &[u8]) -> u32
-    ensures { λ r. ⌜ r ≡ ownBytes (now (s .entry)) ⌝ }
+fn checksum_byte_sum(s: &[u8]) -> u32
+    ensures { λ r. ⌜ r ≡ checksumByteSum (now (s .entry)) ⌝ }
 {
-    number::byte(s, 16) as u32
-        + number::byte(s, 17) as u32
-        + number::byte(s, 18) as u32
-        + number::byte(s, 19) as u32
+    bytes_read::byte(s, 16) as u32
+        + bytes_read::byte(s, 17) as u32
+        + bytes_read::byte(s, 18) as u32
+        + bytes_read::byte(s, 19) as u32
 }
 
 // The span states no sum, or the right one. Where it states none, no byte is summed. Its own four bytes are added to the stated sum and not left out
 // of the other, so that the span is summed in one go.
-pub fn sum_fits(s: &[u8]) -> bool
-    ensures { λ r. ⌜ r ≡ sumFits (now (s .entry)) ⌝ }
+pub fn checksum_matches(s: &[u8]) -> bool
+    ensures { λ r. ⌜ r ≡ checksumMatches (now (s .entry)) ⌝ }
     ensures kept { λ _. ⌜ now (s .exit) ≡ now (s .entry) ⌝ }
 {
-    let stated = number::be32(s, 16);
+    let stated = bytes_read::be32(s, 16);
     if stated == 0 {
         return true;
     }
-    sum(s) == joined(stated, own_bytes(s))
+    sum(s) == add_sums(stated, checksum_byte_sum(s))
 }
 
 // The header's numbers and its name field alone, for a part that is known to begin with the magic. The sum is not looked at.
-pub fn numbers(s: &[u8]) -> Judged
-    ensures { λ j. ⌜ j ≡ judged (numbersOf (now (s .entry))) ⌝ }
+pub fn judge_numbers(s: &[u8]) -> Judged
+    ensures { λ j. ⌜ j ≡ judged (judgeNumbers (now (s .entry))) ⌝ }
     ensures kept { λ _. ⌜ now (s .exit) ≡ now (s .entry) ⌝ }
 {
-    if s.len() < 24 {
+    if s.len() < HEADER_LEN {
         return Judged::IllFormed;
     }
-    let offset = number::be32(s, 20) as usize;
-    let len = number::be32(s, 8) as usize;
-    let kind = number::be32(s, 12);
-    let checksum = number::be32(s, 16);
-    if offset < 40 {
+    let offset = bytes_read::be32(s, 20) as usize;
+    let len = bytes_read::be32(s, 8) as usize;
+    let kind = bytes_read::be32(s, 12);
+    let checksum = bytes_read::be32(s, 16);
+    if offset < OFFSET_MIN {
         return Judged::IllFormed;
     }
-    if 280 < offset {
+    if OFFSET_MAX < offset {
         return Judged::IllFormed;
     }
-    if (offset - 24) % 16 != 0 {
+    if (offset - HEADER_LEN) % FIELD_UNIT != 0 {
         return Judged::IllFormed;
     }
     if s.len() < offset + len {
         return Judged::IllFormed;
     }
-    let named = name_length(&s[24..offset]);
-    if named == 0 {
+    let namelen = name_length(&s[HEADER_LEN..offset]);
+    if namelen == 0 {
         return Judged::IllFormed;
     }
     Judged::WellFormed(Header {
@@ -180,21 +178,21 @@ pub fn numbers(s: &[u8]) -> Judged
         len,
         kind,
         checksum,
-        named,
+        namelen,
     })
 }
 
 // The header's fields alone, for a part that is known to begin with the magic: its numbers, then its sum.
-pub fn fields(s: &[u8]) -> Judged
-    ensures { λ j. ⌜ j ≡ judged (fieldsOf (now (s .entry))) ⌝ }
+pub fn judge_after_magic(s: &[u8]) -> Judged
+    ensures { λ j. ⌜ j ≡ judged (judgeAfterMagic (now (s .entry))) ⌝ }
     ensures kept { λ _. ⌜ now (s .exit) ≡ now (s .entry) ⌝ }
 {
-    let j = numbers(s);
+    let j = judge_numbers(s);
     match j {
         Judged::IllFormed => Judged::IllFormed,
         Judged::WellFormed(h) => {
             let n = h.offset + h.len;
-            if sum_fits(&s[0..n]) {
+            if checksum_matches(&s[0..n]) {
                 return Judged::WellFormed(h);
             }
             Judged::IllFormed
@@ -210,7 +208,7 @@ pub fn judge(s: &[u8]) -> Judged
     if !starts_with_magic(s) {
         return Judged::IllFormed;
     }
-    fields(s)
+    judge_after_magic(s)
 }
 
 // The name of the component that stands at the start of the part; empty where none does.
@@ -220,46 +218,46 @@ pub fn name(s: &[u8]) -> &[u8]
 {
     let j = judge(s);
     match j {
-        Judged::WellFormed(h) => number::part(s, 24, h.named),
+        Judged::WellFormed(h) => bytes_read::part(s, HEADER_LEN, h.namelen),
         Judged::IllFormed => &s[0..0],
     }
 }
 
 // The same by the header's numbers alone, where a component is known to stand: its span is not summed again.
-pub fn bare_name(s: &[u8]) -> &[u8]
-    ensures { λ r. ⌜ now r ≡ nameOf (numbersOf (now (s .entry))) ⌝ }
+pub fn name_by_numbers(s: &[u8]) -> &[u8]
+    ensures { λ r. ⌜ now r ≡ nameOf (judgeNumbers (now (s .entry))) ⌝ }
     ensures kept { λ _. ⌜ now (s .exit) ≡ now (s .entry) ⌝ }
 {
-    let j = numbers(s);
+    let j = judge_numbers(s);
     match j {
         Judged::WellFormed(h) => {
-            let n = h.named;
-            number::part(s, 24, n)
+            let n = h.namelen;
+            bytes_read::part(s, HEADER_LEN, n)
         }
         Judged::IllFormed => &s[0..0],
     }
 }
 
 // The component that stands at the start of the part, by its header's numbers, bears the name: its sum was taken already. Where the name field does
-// not begin with the name and a zero, the numbers are not judged; the zero is tested first, since one byte tells most names of another length apart.
+// not begin with the name and a zero, the numbers are not judged; the zero is tested first, since one byte rules out most names of another length.
 // No component's name is longer than 255 bytes, and no longer one is compared.
 pub fn is_named(s: &[u8], name: &[u8]) -> bool
-    ensures { λ b. ⌜ b ≡ bearsName (now (name .entry)) (numbersOf (now (s .entry))) ⌝ }
+    ensures { λ b. ⌜ b ≡ bearsName (now (name .entry)) (judgeNumbers (now (s .entry))) ⌝ }
     ensures kept { λ _. ⌜ (now (s .exit) ≡ now (s .entry)) × (now (name .exit) ≡ now (name .entry)) ⌝ }
 {
     let asked = name.len();
-    if 255 < asked {
+    if NAME_MAX < asked {
         return false;
     }
-    if number::byte(s, 24 + asked) != 0 {
+    if bytes_read::byte(s, HEADER_LEN + asked) != 0 {
         return false;
     }
-    if !number::equal_by_words(number::part(s, 24, asked), name) {
+    if !bytes_read::equal_by_words(bytes_read::part(s, HEADER_LEN, asked), name) {
         return false;
     }
-    let j = numbers(s);
+    let j = judge_numbers(s);
     match j {
-        Judged::WellFormed(h) => h.named == asked,
+        Judged::WellFormed(h) => h.namelen == asked,
         Judged::IllFormed => false,
     }
 }
@@ -271,7 +269,7 @@ pub fn content(s: &[u8]) -> &[u8]
 {
     let j = judge(s);
     match j {
-        Judged::WellFormed(h) => number::part(s, h.offset, h.len),
+        Judged::WellFormed(h) => bytes_read::part(s, h.offset, h.len),
         Judged::IllFormed => &s[0..0],
     }
 }

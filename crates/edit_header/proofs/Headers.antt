@@ -5,13 +5,13 @@ use mathlib.Core.Path.{_≡_, refl, ap, _∙_}
 use mathlib.Core.List.{List, _++_, append-assoc}
 use lib.ListN.{length, replicate}
 use borrow.Author.Tests.{le-leb}
-use Rattle.number.specs.Bytes.{splice, written}
-use Rattle.number.specs.Number.{beBytes}
-use Rattle.number.proofs.Splice.{Wrote, first, next, splice-length, splice-all}
+use Rattle.bytes_read.specs.Bytes.{splice, written}
+use Rattle.bytes_read.specs.Number.{beBytes}
+use Rattle.bytes_read.proofs.Splice.{Wrote, first, next, splice-length, splice-all}
 use Rattle.component.specs.Sums.{total}
 use Rattle.component.specs.Component.{magic}
-use Rattle.edit.specs.Edit.{offsetFor, headerBytes, sumFor, headerFor}
-use Rattle.edit.proofs.Written.{length-header, stating-sum}
+use Rattle.edit_rules.specs.Edit.{offsetFor, headerBytes, sumFor, headerFor}
+use Rattle.edit_rules.proofs.Written.{length-header, span-sum}
 
 -- A write that fits.
 pub written-fits : (d : List ℕ) (at : ℕ) (ys : List ℕ) → at + length ys ≤ length d → written d at ys ≡ splice d at ys
@@ -29,7 +29,8 @@ more {d} {x} {y} {at} {m} {p} m′ ys n w v e l h =
     let lx : length x ≡ length d = ap length (w .bytes) ∙ splice-length d at p (omega (arith, w .ends, w .fits)) in
     next m′ ys n w (v ∙ written-fits x m′ ys (omega arith)) e l h
 
-pub header-parts : (len kind sum offset : ℕ) → (((magic ++ beBytes 4 len) ++ beBytes 4 kind) ++ beBytes 4 sum) ++ beBytes 4 offset ≡ headerBytes len kind sum offset
+pub header-parts : (len kind sum offset : ℕ)
+    → (((magic ++ beBytes 4 len) ++ beBytes 4 kind) ++ beBytes 4 sum) ++ beBytes 4 offset ≡ headerBytes len kind sum offset
 unfolding headerBytes
 header-parts len kind sum offset = simp append-assoc
 
@@ -61,16 +62,17 @@ low-bytes n = rw (d3 n, d2 n, d1 n, d0 n)
     d0 n = omega arith
 
 -- The sum of a number's four bytes.
-pub digits-sum : (v : ℕ) → v / 256 / 256 / 256 % 256 + v / 256 / 256 % 256 + v / 256 % 256 + v % 256 ≡ total (beBytes 4 v)
+pub byte-sum-is : (v : ℕ) → v / 256 / 256 / 256 % 256 + v / 256 / 256 % 256 + v / 256 % 256 + v % 256 ≡ total (beBytes 4 v)
 unfolding total beBytes
-digits-sum v = omega arith
+byte-sum-is v = omega arith
 
 -- The sum of a component, by what was summed.
 pub sum-by : (name : List ℕ) (kind : ℕ) (content : List ℕ) (l k o n c : ℕ)
-    → l ≡ total (beBytes 4 (length content)) → k ≡ total (beBytes 4 kind) → o ≡ total (beBytes 4 (offsetFor name)) → n ≡ total name % 4294967296 → c ≡ total content % 4294967296 → (590 + l + k + o + (n + c)) % 4294967296 ≡ sumFor name kind content
+    → l ≡ total (beBytes 4 (length content)) → k ≡ total (beBytes 4 kind) → o ≡ total (beBytes 4 (offsetFor name)) → n ≡ total name % 4294967296
+    → c ≡ total content % 4294967296 → (590 + l + k + o + (n + c)) % 4294967296 ≡ sumFor name kind content
 unfolding sumFor
 sum-by name kind content l k o n c el ek eo en ec =
-    rw (stating-sum 0 name kind content, ← el, ← ek, ← eo, en, ec) (low (590 + l + k + o) (total name) (total content))
+    rw (span-sum 0 name kind content, ← el, ← ek, ← eo, en, ec) (low (590 + l + k + o) (total name) (total content))
   where
     low : (x y z : ℕ) → (x + (y % 4294967296 + z % 4294967296)) % 4294967296 ≡ (x + (y + z)) % 4294967296
     low x y z = omega arith

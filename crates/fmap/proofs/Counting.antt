@@ -5,14 +5,14 @@ use mathlib.Core.Path.{_≡_, refl, sym, ap, _∙_}
 use mathlib.Core.Bool.{Bool, true, false}
 use mathlib.Core.List.{List, [], _∷_, _++_}
 use lib.ListN.{length, set, replicate}
-use Rattle.number.specs.Lists.{any, noTwo, padded}
-use Rattle.number.proofs.Padding.{padded-none, padded-set}
-use Rattle.terms.specs.Refusals.{firstFailed}
-use Rattle.terms.proofs.Orders.{numbered, first-here, first-later}
-use Rattle.area.specs.declared.Area.{Area}
-use Rattle.area.specs.Area.{areaAt, unused, areaIn, areaTests}
-use Rattle.area.proofs.Records.{area-in}
-use Rattle.fmap.specs.Fmap.{areasAt, turnTests, most}
+use Rattle.bytes_read.specs.Lists.{any, noTwo, padded}
+use Rattle.bytes_read.proofs.Padding.{padded-none, padded-set}
+use Rattle.region.specs.Refusals.{firstFailed}
+use Rattle.region.proofs.Orders.{numbered, first-here, first-later}
+use Rattle.cbfs_types.specs.declared.Area.{Area}
+use Rattle.fmap_area.specs.Area.{areaAt, unusedArea, areaIn, areaTests}
+use Rattle.fmap_area.proofs.Records.{area-in}
+use Rattle.fmap.specs.Fmap.{areasAt, eachAreaTests, areaLimit}
 
 areas-zero : (s : List ℕ) (p : ℕ) → areasAt s 0 p ≡ []
 unfolding areasAt
@@ -52,19 +52,21 @@ module _ (s : List ℕ) (k p : ℕ) where
     unfolding noTwo
     two-here t f y = rw (areas-next, ← f, y)
 
-    pub two-not : {b : Bool} (t : Area → Area → Bool) → b ≡ any (t a) (areasAt s (k - 1) (p + 42)) → b ≡ false → noTwo t (areasAt s k p) ≡ noTwo t (areasAt s (k - 1) (p + 42))
+    pub two-not : {b : Bool} (t : Area → Area → Bool) → b ≡ any (t a) (areasAt s (k - 1) (p + 42)) → b ≡ false
+        → noTwo t (areasAt s k p) ≡ noTwo t (areasAt s (k - 1) (p + 42))
     unfolding noTwo
     two-not t f y = rw (areas-next, ← f, y)
 
     -- The areas in turn, and the refusal of a.
 
-    pub turn-here : {n : ℕ} (l : ℕ) → n ≡ firstFailed (areaTests s l a) → (n ≡ 0 → ⊥) → firstFailed (turnTests s l (areasAt s k p)) ≡ n
-    unfolding turnTests
-    turn-here l f z = rw areas-next (first-here (areaTests s l a) _ (λ y. z (f ∙ y)) ∙ sym f)
+    pub each-here : {n : ℕ} (l : ℕ) → n ≡ firstFailed (areaTests s l a) → (n ≡ 0 → ⊥) → firstFailed (eachAreaTests s l (areasAt s k p)) ≡ n
+    unfolding eachAreaTests
+    each-here l f z = rw areas-next (first-here (areaTests s l a) _ (λ y. z (f ∙ y)) ∙ sym f)
 
-    pub turn-not : {n : ℕ} (l : ℕ) → n ≡ firstFailed (areaTests s l a) → n ≡ 0 → firstFailed (turnTests s l (areasAt s k p)) ≡ firstFailed (turnTests s l (areasAt s (k - 1) (p + 42)))
-    unfolding turnTests
-    turn-not l f z = rw areas-next (first-later (areaTests s l a) _ (area-numbered s l a) (sym f ∙ z))
+    pub each-not : {n : ℕ} (l : ℕ) → n ≡ firstFailed (areaTests s l a) → n ≡ 0
+        → firstFailed (eachAreaTests s l (areasAt s k p)) ≡ firstFailed (eachAreaTests s l (areasAt s (k - 1) (p + 42)))
+    unfolding eachAreaTests
+    each-not l f z = rw areas-next (first-later (areaTests s l a) _ (area-numbered s l a) (sym f ∙ z))
 
   -- No area is left.
 
@@ -80,9 +82,9 @@ module _ (s : List ℕ) (k p : ℕ) where
     unfolding noTwo
     two-end t = rw areas-end
 
-    pub turn-end : (l : ℕ) → firstFailed (turnTests s l (areasAt s k p)) ≡ 0
-    unfolding turnTests
-    turn-end l = rw areas-end
+    pub each-end : (l : ℕ) → firstFailed (eachAreaTests s l (areasAt s k p)) ≡ 0
+    unfolding eachAreaTests
+    each-end l = rw areas-end
 
 -- How many there are, and one more at the end.
 
@@ -100,12 +102,14 @@ areas-last s (suc k) p =
 
 -- The records, of which the first i are stored.
 
-pub padded-start : (s : List ℕ) (from : ℕ) {u : Area} → u ≡ unused → replicate most u ≡ padded most unused (areasAt s 0 from)
-padded-start s from e = padded-none most unused e ∙ ap (padded most unused) (sym (areas-zero s from))
+pub padded-start : (s : List ℕ) (from : ℕ) {u : Area} → u ≡ unusedArea → replicate areaLimit u ≡ padded areaLimit unusedArea (areasAt s 0 from)
+padded-start s from e = padded-none areaLimit unusedArea e ∙ ap (padded areaLimit unusedArea) (sym (areas-zero s from))
 
-pub padded-next : (s : List ℕ) (from i p : ℕ) {l : List Area} {a : Area} → i < most → p ≡ from + 42 * i → l ≡ padded most unused (areasAt s i from) → a ≡ areaIn s p → p + 42 ≤ length s
-    → set l i a ≡ padded most unused (areasAt s (i + 1) from)
+pub padded-next : (s : List ℕ) (from i p : ℕ) {l : List Area} {a : Area} → i < areaLimit → p ≡ from + 42 * i
+    → l ≡ padded areaLimit unusedArea (areasAt s i from)
+    → a ≡ areaIn s p → p + 42 ≤ length s
+    → set l i a ≡ padded areaLimit unusedArea (areasAt s (i + 1) from)
 padded-next s from i p {l} {a} h q e f w =
     let n : length (areasAt s i from) ≡ i = areas-length s i from in
     let o : i + 1 ≡ suc i = omega arith in
-    rw (e, f, area-in s p w, q, o, areas-last s i from) (rw n at (padded-set most unused (areasAt s i from) (areaAt s (from + 42 * i)) (omega arith)))
+    rw (e, f, area-in s p w, q, o, areas-last s i from) (rw n at (padded-set areaLimit unusedArea (areasAt s i from) (areaAt s (from + 42 * i)) (omega arith)))

@@ -4,12 +4,12 @@ use mathlib.Core.Path.{_≡_}
 use mathlib.Core.List.{List, [], _∷_, _++_}
 use mathlib.Core.Logic.{_⊎_}
 use lib.ListN.{length, getD}
-use Rattle.number.specs.Number.{le}
-use Rattle.terms.specs.Table.{Row, row, lengthRow}
-use Rattle.area.specs.declared.Area.{Area}
-use Rattle.area.specs.Table.{areaRows, SameName, Cross, FmapArea}
-use Rattle.signature.specs.Table.{SignatureAt}
-use Rattle.fmap.specs.declared.Map.{Map}
+use Rattle.bytes_read.specs.Number.{le}
+use Rattle.region.specs.Table.{Row, row, lengthRow}
+use Rattle.cbfs_types.specs.declared.Area.{Area}
+use Rattle.fmap_area.specs.Table.{areaRows, SameName, Cross, FmapArea}
+use Rattle.fmap_signature.specs.Table.{SignatureAt}
+use Rattle.cbfs_types.specs.declared.FlashMap.{FlashMap}
 
 -- The map's place is p: a signature stands there, or nowhere. Of several signatures it may be any.
 abbrev pub MapPlace : List ℕ → ℕ → Type 0
@@ -42,24 +42,24 @@ module _ (i : List ℕ) where
     area k = p + 56 + 42 * k
 
     -- "Areas in turn by 33 then 35": n areas, from the k-th on.
-    abbrev pub inTurn : ℕ → ℕ → List Row
-    inTurn zero k = []
-    inTurn (suc n) k = areaRows i size (area k) ++ inTurn n (suc k)
+    abbrev pub eachAreaRows : ℕ → ℕ → List Row
+    eachAreaRows zero k = []
+    eachAreaRows (suc n) k = areaRows i size (area k) ++ eachAreaRows n (suc k)
 
     -- Two different areas, in map order.
     abbrev pub TwoAreas : (ℕ → ℕ → Type 0) → Type 0
     TwoAreas R = (j : ℕ) × (k : ℕ) × (j < k) × (k < nareas) × R (area j) (area k)
 
     -- "An area named FMAP holds the whole map."
-    abbrev pub MapHeld : Type 0
-    MapHeld = (k : ℕ) × (k < nareas) × FmapArea i p (area nareas) (area k)
+    abbrev pub MapContained : Type 0
+    MapContained = (k : ℕ) × (k < nareas) × FmapArea i p (area nareas) (area k)
 
     -- "Then 34, 36, 37", of all areas.
-    abbrev pub together : List Row
-    together =
+    abbrev pub allAreasRows : List Row
+    allAreasRows =
         row 34 (TwoAreas (SameName i))
         ∷ row 36 (TwoAreas (Cross i))
-        ∷ row 37 (MapHeld → ⊥)
+        ∷ row 37 (MapContained → ⊥)
         ∷ []
 
     -- "For FMAP: 1, 27 to 32, areas in turn by 33 then 35, then 34, 36, 37."
@@ -72,10 +72,10 @@ module _ (i : List ℕ) where
         ∷ row 30 (major ≡ 1 → ⊥)
         ∷ row 31 (size ≡ L → ⊥)
         ∷ row 32 ((nareas ≡ 0) ⊎ (256 < nareas))
-        ∷ (inTurn nareas 0 ++ together)
+        ∷ (eachAreaRows nareas 0 ++ allAreasRows)
 
     -- "The reader gives minor, base, a count and 256 records (offset, size, flags, place of the name) in map order, unused ones zero."
-    pub record ReadsMap (m : Map) : Type 0 where
+    pub record ReadsMap (m : FlashMap) : Type 0 where
       pub no-place : m .place ≡ 0
       pub minor-read : m .minor ≡ minor
       pub base-read : m .base ≡ base

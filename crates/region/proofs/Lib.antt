@@ -1,4 +1,4 @@
-pub mod Numbers
-pub mod Telling
-pub mod Listing
+pub mod Orders
+pub mod Tables
+pub mod Regions
 pub mod Worked

@@ -1,1 +1,3 @@
 pub mod Region
+pub mod Refusals
+pub mod Table

@@ -1,78 +1,14 @@
--- The calls over an image i and a region g of it (document 01, "Components and the two walks", and refusals 9, 10 and 11).
--- Places are told from the image's start. The numbers of a region may be any: one that does not fit the image is empty.
-use Prim.Native.Nat.{ℕ, _+_, _-_, _%_}
-use mathlib.Core.Path.{_≡_}
-use mathlib.Core.List.{List, [], _∷_}
-use mathlib.Core.Bool.{Bool, cond, _||_}
-use mathlib.Core.Option.{Option, some, none}
-use lib.ListN.{drop}
-use lib.Dec.{leb, eqb}
-use Rattle.number.specs.Tests.{every}
-use Rattle.component.specs.Component.{Component, judge, nameOf, contentOf, headerOf}
-use Rattle.walk.specs.Walk.{Entry, Pick, pickOf, step, next}
-use Rattle.lookup.specs.Lookup.{Answer, refused, gives, lookupOf}
-use Rattle.walk.specs.declared.Taken.{Taken}
-use Rattle.terms.specs.Terms.{bytesOf, refusedBy}
-use Rattle.terms.specs.declared.Region.{Region}
-use Rattle.region.specs.declared.Step.{Step}
-use Rattle.region.specs.declared.Step.the-variants.{Took, NoneLeft, Refused as StepRefused}
-use Rattle.region.specs.declared.Found.{Found}
-use Rattle.region.specs.declared.Found.the-variants.{At, Refused as FoundRefused}
+-- A region's bytes, and a refusal by its number (document 01, "Master header" and "Refusal numbers").
+use Prim.Native.Nat.{ℕ, _-_}
+use mathlib.Core.List.{List}
+use Rattle.bytes_read.specs.Bytes.{partOf}
+use Rattle.cbfs_types.specs.declared.Region.{Region}
+use Rattle.cbfs_types.specs.declared.Refusal.{Refusal}
 
--- A number to step from: not below the region's start nor past its end, and at that end or a place.
--- Places are multiples of align counted from the start.
-unfoldable pub stepFits : Region → ℕ → Bool
-stepFits g n = every (leb (g .start) n ∷ leb n (g .end) ∷ (eqb n (g .end) || eqb ((n - g .start) % g .align) 0) ∷ [])
+-- The region's bytes; none where its numbers do not fit the image.
+unfoldable pub regionBytes : List ℕ → Region → List ℕ
+regionBytes i g = partOf i (g .start) (g .end - g .start)
 
--- What is told of a component of the region: its place, its header's numbers, and the number to go on from, all from the image's start.
-abbrev pub takenAt : List ℕ → Region → Entry → Taken
-takenAt i g t = record { place = g .start + t .place; header = headerOf (t .component); next = g .start + next (bytesOf i g) (g .align) t }
-
-abbrev pub stepped : List ℕ → Region → Option Entry → Step
-stepped i g none = NoneLeft
-stepped i g (some t) = Took (takenAt i g t)
-
--- A step of a walk from n; 9 where n is no number to step from.
-unfoldable pub stepBy : Pick → List ℕ → Region → ℕ → Step
-stepBy pick i g n = cond (stepFits g n) (stepped i g (step pick (bytesOf i g) (g .align) (n - g .start))) (StepRefused (refusedBy 9))
-
--- The step of the walk that w chooses: the guarded one where it is true.
-abbrev pub stepIn : Bool → List ℕ → Region → ℕ → Step
-stepIn w i g n = stepBy (pickOf w (bytesOf i g) (g .align)) i g n
-
--- What a lookup answers, and the content that it gives: empty on a refusal.
-
-abbrev pub foundAt : List ℕ → Region → Answer → Found
-foundAt i g (refused n) = FoundRefused (refusedBy n)
-foundAt i g (gives t) = At (takenAt i g t)
-
-abbrev pub contentFound : Answer → List ℕ
-contentFound (refused n) = []
-contentFound (gives t) = t .component .content
-
--- The lookup of the walk that w chooses.
-
-abbrev pub findIn : Bool → List ℕ → Region → List ℕ → Found
-findIn w i g name = foundAt i g (lookupOf w (bytesOf i g) (g .align) name)
-
-abbrev pub contentIn : Bool → List ℕ → Region → List ℕ → List ℕ
-contentIn w i g name = contentFound (lookupOf w (bytesOf i g) (g .align) name)
-
--- The part of the image from a place up to the region's end; none where the number is no place of the region.
-unfoldable pub fromPlace : List ℕ → Region → ℕ → List ℕ
-fromPlace i g p = cond (stepFits g p) (drop (p - g .start) (bytesOf i g)) []
-
--- The component at a place, judged again there.
-abbrev pub componentAt : List ℕ → Region → ℕ → Option Component
-componentAt i g p = judge (fromPlace i g p)
-
-abbrev pub nameAt : List ℕ → Region → ℕ → List ℕ
-nameAt i g p = nameOf (componentAt i g p)
-
-abbrev pub contentAt : List ℕ → Region → ℕ → List ℕ
-contentAt i g p = contentOf (componentAt i g p)
-
--- The steps from a number on, each from the number that the last one gave, up to none left; none of them is refused.
-pub data Walked (call : ℕ → Step) : ℕ → List Taken → Type 0 where
-  ended : {n : ℕ} → call n ≡ NoneLeft → Walked call n []
-  went : {n : ℕ} {t : Taken} {ts : List Taken} → call n ≡ Took t → Walked call (t .next) ts → Walked call n (t ∷ ts)
+-- A refusal by its number. It reports place 0.
+abbrev pub refusalBy : ℕ → Refusal
+refusalBy n = record { number = n; place = 0 }

@@ -1,9 +1,9 @@
 pub mod Places
-pub mod Hunting
+pub mod Searching
 pub mod Steps
 pub mod Picks
 pub mod Stepping
 pub mod Standing
-pub mod Candidates
+pub mod Unsummed
 pub mod Members
 pub mod Rounding

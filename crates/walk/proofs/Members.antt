@@ -9,23 +9,23 @@ use mathlib.Core.Bool.{Bool}
 use mathlib.Core.Option.{some}
 use lib.ListN.{length, drop}
 use Rattle.component.specs.Component.{judge}
-use Rattle.walk.specs.Walk.{Entry, end, onward, next, pickOf, listing, Place}
+use Rattle.walk.specs.Walk.{Entry, entryEnd, nextPlace, next, pickOf, listing, Place}
 use Rattle.walk.proofs.Steps.{Listed, mem-listing, rest-none}
 use Rattle.walk.proofs.Stepping.{pick-fits, step-no-places}
 use Rattle.walk.proofs.Standing.{pick-judged}
 
 -- The number to go on from lies in the region or at its end.
 pub next-within : (r : List ℕ) (a : ℕ) (e : Entry) → next r a e ≤ length r
-unfolding onward
+unfolding nextPlace
 next-within r a e = min-le-right _ _
 
--- What either listing has: g tells the guarded one.
+-- What either listing has: g is true for the guarded one.
 pub record Given (r : List ℕ) (a : ℕ) (e : Entry) : Type 0 where
   pub pos : 0 < a
   pub at : Place a (e .place)
   pub inside : e .place < length r
   pub judged : judge (drop (e .place) r) ≡ some (e .component)
-  pub fits : end e ≤ length r
+  pub fits : entryEnd e ≤ length r
 
 pub given : (g : Bool) (r : List ℕ) (a : ℕ) (e : Entry) → List·Memᴰ e (listing (pickOf g r a) r a) → Given r a e
 given g r a e m = go (decLt 0 a)
@@ -40,4 +40,6 @@ given g r a e m = go (decLt 0 a)
           judged = pick-judged g r a 0 pos (e .place) (e .component) (l .taken);
           fits = pick-fits g r a pos (e .place) (e .component) (l .taken) .1;
         }
-    go (no h) = absurd (List·Memᴰ·not-nil (subst (λ (l : List Entry). List·Memᴰ e l) (rest-none (pickOf g r a) r a 0 (step-no-places (pickOf g r a) r a 0 (omega arith))) m))
+    go (no h) =
+        absurd (List·Memᴰ·not-nil (subst (λ (l : List Entry). List·Memᴰ e l)
+        (rest-none (pickOf g r a) r a 0 (step-no-places (pickOf g r a) r a 0 (omega arith))) m))

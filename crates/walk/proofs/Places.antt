@@ -6,20 +6,20 @@ use native.Mathlib.Decide.{decLe, decLt}
 use mathlib.Core.Path.{_≡_}
 use mathlib.Core.List.{List·Memᴰ, List·Memᴰ·head, List·Memᴰ·tail, List·Memᴰ·not-nil, List·Memᴰ·cases-cons, Memᴰ·cast}
 use mathlib.Core.Logic.{_⊎_, inl, inr}
-use Rattle.walk.specs.Walk.{placesBelow, places}
+use Rattle.walk.specs.Walk.{placeCountBelow, places}
 
 -- An alignment of 0 has no places.
-pub no-places : (n : ℕ) → placesBelow 0 n ≡ 0
-unfolding placesBelow
+pub no-places : (n : ℕ) → placeCountBelow 0 n ≡ 0
+unfolding placeCountBelow
 no-places n = div-zero (n + 0)
 
 module _ (a : ℕ) (pos : 0 < a) where
-  pub below-ge : (n : ℕ) → n ≤ placesBelow a n * a
-  unfolding placesBelow
+  pub below-ge : (n : ℕ) → n ≤ placeCountBelow a n * a
+  unfolding placeCountBelow
   below-ge n = omega (arith, div-add-mod' (n + (a - 1)) a, mod-lt (n + (a - 1)) pos)
 
-  pub below-lt : (n : ℕ) → placesBelow a n * a < n + a
-  unfolding placesBelow
+  pub below-lt : (n : ℕ) → placeCountBelow a n * a < n + a
+  unfolding placeCountBelow
   below-lt n = omega (arith, div-add-mod' (n + (a - 1)) a)
 
   pub place-le : (c i : ℕ) → c * a < i * a + a → c * a ≤ i * a
@@ -27,39 +27,39 @@ module _ (a : ℕ) (pos : 0 < a) where
       let k : c < suc i = lt-of-mul-lt-mul-right a {m = c} {n = suc i} (omega arith) in
       mul-le-mul-right {m = c} {n = i} a (omega arith)
 
-  pub below-least : (n i : ℕ) → n ≤ i * a → placesBelow a n * a ≤ i * a
-  below-least n i h = place-le (placesBelow a n) i (omega (arith, below-lt n))
+  pub below-least : (n i : ℕ) → n ≤ i * a → placeCountBelow a n * a ≤ i * a
+  below-least n i h = place-le (placeCountBelow a n) i (omega (arith, below-lt n))
 
-  pub below-unique : (n c : ℕ) → n ≤ c * a → c * a < n + a → placesBelow a n ≡ c
+  pub below-unique : (n c : ℕ) → n ≤ c * a → c * a < n + a → placeCountBelow a n ≡ c
   below-unique n c h k =
-      let ge : n ≤ placesBelow a n * a = below-ge n in
-      let lt : placesBelow a n * a < n + a = below-lt n in
-      let u : placesBelow a n * a ≤ c * a = place-le (placesBelow a n) c (omega arith) in
-      let v : c * a ≤ placesBelow a n * a = place-le c (placesBelow a n) (omega arith) in
-      eq-of-mul-eq-mul-right a pos (placesBelow a n) c (omega arith)
+      let ge : n ≤ placeCountBelow a n * a = below-ge n in
+      let lt : placeCountBelow a n * a < n + a = below-lt n in
+      let u : placeCountBelow a n * a ≤ c * a = place-le (placeCountBelow a n) c (omega arith) in
+      let v : c * a ≤ placeCountBelow a n * a = place-le c (placeCountBelow a n) (omega arith) in
+      eq-of-mul-eq-mul-right a pos (placeCountBelow a n) c (omega arith)
 
   -- Counted on from a place.
-  pub below-add : (i n : ℕ) → placesBelow a (i * a + n) ≡ i + placesBelow a n
-  below-add i n = let l = below-ge n in let h = below-lt n in below-unique (i * a + n) (i + placesBelow a n) (omega arith) (omega arith)
+  pub below-add : (i n : ℕ) → placeCountBelow a (i * a + n) ≡ i + placeCountBelow a n
+  below-add i n = let l = below-ge n in let h = below-lt n in below-unique (i * a + n) (i + placeCountBelow a n) (omega arith) (omega arith)
 
-  pub below-zero : placesBelow a 0 ≡ 0
+  pub below-zero : placeCountBelow a 0 ≡ 0
   below-zero = below-unique 0 0 (omega arith) (omega arith)
 
   -- One place more, below the end.
-  pub below-next : (e p : ℕ) → p < e → placesBelow a (e - p) ≡ suc (placesBelow a (e - (p + a)))
-  below-next e p h = go (placesBelow a (e - (p + a))) (below-ge (e - (p + a))) (below-lt (e - (p + a))) (λ z. rw z below-zero)
+  pub below-next : (e p : ℕ) → p < e → placeCountBelow a (e - p) ≡ suc (placeCountBelow a (e - (p + a)))
+  below-next e p h = go (placeCountBelow a (e - (p + a))) (below-ge (e - (p + a))) (below-lt (e - (p + a))) (λ z. rw z below-zero)
     where
-      go : (c : ℕ) → e - (p + a) ≤ c * a → c * a < (e - (p + a)) + a → (e - (p + a) ≡ 0 → c ≡ 0) → placesBelow a (e - p) ≡ suc c
+      go : (c : ℕ) → e - (p + a) ≤ c * a → c * a < (e - (p + a)) + a → (e - (p + a) ≡ 0 → c ≡ 0) → placeCountBelow a (e - p) ≡ suc c
       go c ge lt z = below-unique (e - p) (suc c) (omega arith) (by (decLe e (p + a)))
         where
           by : Dec (e ≤ p + a) → suc c * a < e - p + a
           by (yes le) = rw (z (omega arith)) (omega arith)
           by (no g) = omega arith
 
-  pub below-end : (e p : ℕ) → e ≤ p → placesBelow a (e - p) ≡ 0
+  pub below-end : (e p : ℕ) → e ≤ p → placeCountBelow a (e - p) ≡ 0
   below-end e p h = below-unique (e - p) 0 (omega arith) (omega arith)
 
-  pub below-pos : (e p j : ℕ) → placesBelow a (e - p) ≡ suc j → p < e
+  pub below-pos : (e p j : ℕ) → placeCountBelow a (e - p) ≡ suc j → p < e
   below-pos e p j c = go (decLt p e)
     where
       go : Dec (p < e) → p < e
@@ -79,7 +79,8 @@ unfolding places
 mem-places a zero p x m = absurd (List·Memᴰ·not-nil m)
 mem-places a (suc k) p x m = go (List·Memᴰ·cases-cons m) (λ m′. mem-places a k (p + a) x m′)
   where
-    go : (x ≡ p) ⊎ List·Memᴰ x (places a k (p + a)) → (List·Memᴰ x (places a k (p + a)) → (i : ℕ) × (i < k) × (x ≡ p + a + i * a)) → (i : ℕ) × (i < suc k) × (x ≡ p + i * a)
+    go : (x ≡ p) ⊎ List·Memᴰ x (places a k (p + a)) → (List·Memᴰ x (places a k (p + a)) → (i : ℕ) × (i < k) × (x ≡ p + a + i * a))
+        → (i : ℕ) × (i < suc k) × (x ≡ p + i * a)
     go (inl e) ih = (0, omega arith, omega arith)
     go (inr m′) ih = let (i, h, e) = ih m′ in (suc i, omega arith, omega arith)
 

@@ -1,4 +1,4 @@
--- What a step has taken, by the component and by what is answered of it. g tells the guarded walk.
+-- What a step has taken, by the component and by what is answered of it. g is true for the guarded walk.
 use Prim.Native.Nat.{ℕ, suc, _≤_, _<_}
 use native.Mathlib.Omega.{arith}
 use native.Mathlib.Decide.{decLt}
@@ -7,26 +7,26 @@ use mathlib.Core.List.{List}
 use mathlib.Core.Bool.{Bool, true, false}
 use mathlib.Core.Option.{Option, some, none, Option·none-ne-some}
 use lib.ListN.{length, drop}
-use Rattle.number.specs.Bytes.{partOf}
-use Rattle.number.proofs.Splice.{part-in}
+use Rattle.bytes_read.specs.Bytes.{partOf}
+use Rattle.bytes_read.proofs.Splice.{part-in}
 use Rattle.component.specs.Component.{Component, judge}
 use Rattle.component.proofs.Judging.{judge-fits, judge-name}
-use Rattle.walk.specs.Walk.{Entry, end, plain, pickOf, step, next, takenOf, told}
-use Rattle.walk.specs.declared.Taken.{Taken}
-use Rattle.walk.specs.declared.Step.the-variants.{Took, NoneLeft}
-use Rattle.walk.proofs.Steps.{First, step-some, onward-far}
+use Rattle.walk.specs.Walk.{Entry, entryEnd, plainPick, pickOf, step, next, takenOf, stepAnswer}
+use Rattle.cbfs_types.specs.declared.Taken.{Taken}
+use Rattle.walk.specs.declared.WalkStep.the-variants.{Took, NoneLeft}
+use Rattle.walk.proofs.Steps.{First, step-some, next-place-far}
 use Rattle.walk.proofs.Picks.{guarded-plain}
 use Rattle.walk.proofs.Stepping.{pick-fits, step-no-places}
 
 -- From the answer to the component.
 
-pub told-some : (r : List ℕ) (a : ℕ) (o : Option Entry) (t : Taken) → told r a o ≡ Took t → (e : Entry) × (o ≡ some e) × (takenOf r a e ≡ t)
-told-some r a none t e = let z : _≡_ {A = ℕ} 0 1 = cc in absurd (omega arith)
-told-some r a (some x) t e = (x, refl, (cc))
+pub answer-some : (r : List ℕ) (a : ℕ) (o : Option Entry) (t : Taken) → stepAnswer r a o ≡ Took t → (e : Entry) × (o ≡ some e) × (takenOf r a e ≡ t)
+answer-some r a none t e = let z : _≡_ {A = ℕ} 0 1 = cc in absurd (omega arith)
+answer-some r a (some x) t e = (x, refl, (cc))
 
-pub told-none : (r : List ℕ) (a : ℕ) (o : Option Entry) → told r a o ≡ NoneLeft → o ≡ none
-told-none r a none e = refl
-told-none r a (some x) e = let z : _≡_ {A = ℕ} 0 1 = cc in absurd (omega arith)
+pub answer-none : (r : List ℕ) (a : ℕ) (o : Option Entry) → stepAnswer r a o ≡ NoneLeft → o ≡ none
+answer-none r a none e = refl
+answer-none r a (some x) e = let z : _≡_ {A = ℕ} 0 1 = cc in absurd (omega arith)
 
 -- What a step has taken.
 pub record Stands (r : List ℕ) (a n : ℕ) (e : Entry) : Type 0 where
@@ -34,7 +34,7 @@ pub record Stands (r : List ℕ) (a n : ℕ) (e : Entry) : Type 0 where
   pub from : n ≤ e .place
   pub inside : e .place < length r
   pub judged : judge (drop (e .place) r) ≡ some (e .component)
-  pub fits : end e ≤ length r
+  pub fits : entryEnd e ≤ length r
   pub later : n < next r a e
   pub named : partOf (drop (e .place) r) 24 (length (e .component .name)) ≡ e .component .name
 
@@ -47,7 +47,7 @@ module _ (g : Bool) (r : List ℕ) (a n : ℕ) where
       go (no h) = absurd (Option·none-ne-some e (sym (step-no-places (pickOf g r a) r a n (omega arith)) ∙ s))
 
   pub pick-judged : 0 < a → (p : ℕ) (c : Component) → pickOf g r a p ≡ some c → judge (drop p r) ≡ some c
-  unfolding plain
+  unfolding plainPick
   pick-judged pos p c e = go g e
     where
       go : (b : Bool) → pickOf b r a p ≡ some c → judge (drop p r) ≡ some c
@@ -68,13 +68,13 @@ module _ (g : Bool) (r : List ℕ) (a n : ℕ) where
         inside = f .inside;
         judged = j;
         fits = b .1;
-        later = omega (arith, f .at, onward-far r a pos (end e) (suc (e .place)) (omega (arith, b .0)) (f .inside));
+        later = omega (arith, f .at, next-place-far r a pos (entryEnd e) (suc (e .place)) (omega (arith, b .0)) (f .inside));
         named = sym (part-in (drop (e .place) r) 24 (length (e .component .name)) (omega (arith, i .1, m .1))) ∙ m .2;
       }
 
   -- The same by what a step answered.
-  pub took-inside : (t : Taken) → told r a (step (pickOf g r a) r a n) ≡ Took t → (t .place ≤ length r) × (n < t .next)
-  took-inside t s = let (e, o, q) = told-some r a (step (pickOf g r a) r a n) t s in go e o q
+  pub took-inside : (t : Taken) → stepAnswer r a (step (pickOf g r a) r a n) ≡ Took t → (t .place ≤ length r) × (n < t .next)
+  took-inside t s = let (e, o, q) = answer-some r a (step (pickOf g r a) r a n) t s in go e o q
     where
       go : (e : Entry) → step (pickOf g r a) r a n ≡ some e → takenOf r a e ≡ t → (t .place ≤ length r) × (n < t .next)
       go e o q = let k : Stands r a n e = stands e o in

@@ -1,6 +1,6 @@
 use mathlib.Core.Path.{refl, sym, ap, _∙_}
 use borrow.Author.Tests.{lt-ltb, le-ltb}
-use Rattle.fmap.specs.declared.Map.{Map}
+use Rattle.cbfs_types.specs.declared.FlashMap.{FlashMap}
 use Rattle.bench_calls.specs.Calls.{mapOffset}
 use borrow.Author.Needs.{needs}
 use Rattle.bench_calls.proofs.bench_map_at.Statement.{statement}
@@ -23,7 +23,7 @@ returns c =
     let t = c .before .before in
     let k = t .before in
     let a = k .before .before .args in
-    let same = ap (λ (d : Map). mapOffset d (a .k)) (sym (k .map-at .ensures .0)) in
+    let same = ap (λ (d : FlashMap). mapOffset d (a .k)) (sym (k .map-at .ensures .0)) in
     (c .value-or .ensures ∙ sym (same ∙ rw (lt-ltb _ _ (t .if1 .taken))), refl)
 
 value-or-requires-2 : tie.Need-value-or-requires-2
@@ -34,7 +34,7 @@ returns-2 c =
     let t = c .before in
     let k = t .before in
     let a = k .before .before .args in
-    let same = ap (λ (d : Map). mapOffset d (a .k)) (sym (k .map-at .ensures .0)) in
+    let same = ap (λ (d : FlashMap). mapOffset d (a .k)) (sym (k .map-at .ensures .0)) in
     (c .value-or2 .ensures ∙ sym (same ∙ rw (le-ltb _ _ (t .if1 .left))), refl)
 
 pub bench-map-at-spec : {M : Type 1} → statement M

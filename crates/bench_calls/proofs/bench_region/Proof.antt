@@ -14,9 +14,9 @@ enum-known-m c = search needs
 enum-known-m-2 : tie.Need-enum-known-m-2
 enum-known-m-2 c = search needs
 
--- a refusal of the master header tells place 0
-refusal-number-requires : tie.Need-refusal-number-requires
-refusal-number-requires c κs =
+-- a refusal of the master header reports place 0
+encoded-refusal-requires : tie.Need-encoded-refusal-requires
+encoded-refusal-requires c κs =
     let m = c .before in
     omega (arith, header-place (m .before .before .before .before .args .image .now) _ (sym (m .before .before .region .ensures .0) ∙ m .m2 .given .1))
 
@@ -30,7 +30,7 @@ returns-2 : tie.Need-returns-2
 returns-2 c =
     let m = c .before .before in
     let e = sym (m .before .before .region .ensures .0) ∙ m .m2 .given .1 in
-    (c .refusal-number .ensures ∙ rw e, refl)
+    (c .encoded-refusal .ensures ∙ rw e, refl)
 
 pub bench-region-spec : {M : Type 1} → statement M
 bench-region-spec =
@@ -39,6 +39,6 @@ bench-region-spec =
     region-requires
     enum-known-m
     enum-known-m-2
-    refusal-number-requires
+    encoded-refusal-requires
     returns
     returns-2)

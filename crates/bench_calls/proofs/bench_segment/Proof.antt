@@ -1,6 +1,6 @@
 use mathlib.Core.Path.{refl, sym, ap, _∙_}
 use borrow.Author.Tests.{lt-ltb, le-ltb}
-use Rattle.payload.specs.declared.PayloadPlan.{PayloadPlan}
+use Rattle.cbfs_types.specs.declared.PayloadPlan.{PayloadPlan}
 use Rattle.bench_calls.specs.Calls.{planSource}
 use borrow.Author.Needs.{needs}
 use Rattle.bench_calls.proofs.bench_segment.Statement.{statement}

@@ -1,6 +1,6 @@
 use native.Mathlib.Omega.{arith}
 use mathlib.Core.Path.{refl, ap, _∙_}
-use Rattle.checker.specs.declared.Directory.{Directory}
+use Rattle.cbfs_types.specs.declared.Directory.{Directory}
 use Rattle.bench_calls.specs.Calls.{directoryCount}
 use Rattle.bench_calls.proofs.Refusing.{check-small}
 use borrow.Author.Needs.{needs}
@@ -10,7 +10,7 @@ use Rattle.bench_calls.proofs.bench_strict_count.Tie as tie
 strict-check-requires : tie.Need-strict-check-requires
 strict-check-requires c κs = search needs
 
--- the strict check tells a place of the image
+-- the strict check reports a place of the image
 value-or-requires : tie.Need-value-or-requires
 value-or-requires c κs =
     omega (arith, ap (λ (d : Directory). d .place) (c .strict-check .ensures .0), check-small (c .before .before .args .image .now))

@@ -2,7 +2,7 @@ use Prim.Native.Nat.{_<_}
 use native.Mathlib.Omega.{arith}
 use mathlib.Core.Path.{refl, sym, ap, _∙_}
 use borrow.Author.Tests.{lt-ltb, le-ltb}
-use Rattle.checker.specs.declared.Directory.{Directory}
+use Rattle.cbfs_types.specs.declared.Directory.{Directory}
 use Rattle.bench_calls.specs.Calls.{directoryPlace}
 use Rattle.bench_calls.proofs.Refusing.{check-small}
 use borrow.Author.Needs.{needs}
@@ -18,12 +18,12 @@ mul-value-or c = search needs
 element-copy-out-value-or : tie.Need-element-copy-out-value-or
 element-copy-out-value-or c = search needs
 
--- the strict check tells a place of the image
-told : (c : tie.After-strict-check) → c .strict-check .result .place < 4294967296
-told c = omega (arith, ap (λ (d : Directory). d .place) (c .strict-check .ensures .0), check-small (c .before .before .args .image .now))
+-- the strict check reports a place of the image
+place-small : (c : tie.After-strict-check) → c .strict-check .result .place < 4294967296
+place-small c = omega (arith, ap (λ (d : Directory). d .place) (c .strict-check .ensures .0), check-small (c .before .before .args .image .now))
 
 value-or-requires : tie.Need-value-or-requires
-value-or-requires c κs = told (c .before .before)
+value-or-requires c κs = place-small (c .before .before)
 
 returns : tie.Need-returns
 returns c =
@@ -34,7 +34,7 @@ returns c =
     (c .value-or .ensures ∙ sym (same ∙ rw (lt-ltb _ _ (t .if1 .taken))), refl)
 
 value-or-requires-2 : tie.Need-value-or-requires-2
-value-or-requires-2 c κs = told (c .before)
+value-or-requires-2 c κs = place-small (c .before)
 
 returns-2 : tie.Need-returns-2
 returns-2 c =

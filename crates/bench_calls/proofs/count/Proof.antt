@@ -17,9 +17,9 @@ count-steps-requires c κs = let m = c .before in sym (m .before .before .region
 enum-known-m-2 : tie.Need-enum-known-m-2
 enum-known-m-2 c = search needs
 
--- a refusal of the master header tells place 0
-refusal-number-requires : tie.Need-refusal-number-requires
-refusal-number-requires c κs =
+-- a refusal of the master header reports place 0
+encoded-refusal-requires : tie.Need-encoded-refusal-requires
+encoded-refusal-requires c κs =
     let m = c .before in
     omega (arith, header-place (m .before .before .before .before .args .image .now) _ (sym (m .before .before .region .ensures .0) ∙ m .m2 .given .1))
 
@@ -30,7 +30,7 @@ returns-2 : tie.Need-returns-2
 returns-2 c =
     let m = c .before .before in
     let e = sym (m .before .before .region .ensures .0) ∙ m .m2 .given .1 in
-    c .refusal-number .ensures ∙ rw e
+    c .encoded-refusal .ensures ∙ rw e
 
 pub count-spec : {M : Type 1} → statement M
 count-spec =
@@ -40,6 +40,6 @@ count-spec =
     enum-known-m
     count-steps-requires
     enum-known-m-2
-    refusal-number-requires
+    encoded-refusal-requires
     returns
     returns-2)

@@ -2,7 +2,7 @@
 use Prim.Native.Nat.{_+_, _-_, _<_}
 use native.Mathlib.Omega.{arith}
 use mathlib.Core.Path.{sym, _∙_}
-use Rattle.region.specs.Region.{stepIn}
+use Rattle.region_read.specs.RegionRead.{stepIn}
 use Rattle.bench_calls.specs.Calls.{countOf}
 use Rattle.bench_calls.proofs.Stepping.{Counting, count-start, count-on, count-end, count-unrefused, count-few}
 use borrow.Author.Needs.{needs}
@@ -31,7 +31,8 @@ start c = c .before .before .before .before .before
 on : (c : tie.After-s Inv-loop μ-loop) →
     let l = c .before .before .before in
     let a = start c .args in
-    (l .loop .n < countOf (a .guarded) (a .image .now)) × Counting (stepIn (a .guarded) (a .image .now) (a .region)) (countOf (a .guarded) (a .image .now)) (c .s .given .0 .0 .next) (l .loop .n + 1)
+    (l .loop .n < countOf (a .guarded) (a .image .now))
+    × Counting (stepIn (a .guarded) (a .image .now) (a .region)) (countOf (a .guarded) (a .image .now)) (c .s .given .0 .0 .next) (l .loop .n + 1)
 on c = count-on _ (sym (c .before .before .step-in .ensures .0) ∙ c .s .given .1) (c .before .before .before .loop .inv)
 
 add-n : tie.Need-add-n Inv-loop μ-loop

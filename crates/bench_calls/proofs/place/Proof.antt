@@ -14,9 +14,9 @@ enum-known-f c = search needs
 enum-known-f-2 : tie.Need-enum-known-f-2
 enum-known-f-2 c = search needs
 
--- a lookup's refusal tells place 0
-refusal-number-requires : tie.Need-refusal-number-requires
-refusal-number-requires c κs =
+-- a lookup's refusal reports place 0
+encoded-refusal-requires : tie.Need-encoded-refusal-requires
+encoded-refusal-requires c κs =
     let m = c .before in
     let a = m .before .before .before .before .before .args in
     lookup-small (a .image .now) (a .guarded) (a .name .now) _ (sym (m .before .before .find .ensures) ∙ m .f2 .given .1)
@@ -29,9 +29,9 @@ returns c =
 returns-2 : tie.Need-returns-2
 returns-2 c =
     let m = c .before .before in
-    c .refusal-number .ensures ∙ ap placeNumber (sym (m .f2 .given .1) ∙ m .before .before .find .ensures)
+    c .encoded-refusal .ensures ∙ ap placeNumber (sym (m .f2 .given .1) ∙ m .before .before .find .ensures)
 
 pub place-spec : {M : Type 1} → statement M
 place-spec =
     tie.close
-    (tie.spec find-requires enum-known-f enum-known-f-2 refusal-number-requires returns returns-2)
+    (tie.spec find-requires enum-known-f enum-known-f-2 encoded-refusal-requires returns returns-2)

@@ -4,8 +4,8 @@ use native.Mathlib.Omega.{arith}
 use lib.ListN.{length, drop}
 use borrow.Author.Tests.{eq-eqb, ne-eqb}
 use Rattle.component.specs.Names.{isZero}
-use Rattle.number.specs.Tests.{all}
-use Rattle.number.proofs.Passing.{all-here, all-not, all-done}
+use Rattle.bytes_read.specs.Tests.{all}
+use Rattle.bytes_read.proofs.Passing.{all-here, all-not, all-done}
 use borrow.Author.Needs.{needs}
 use Rattle.component.proofs.all_zero.Statement.{statement}
 use Rattle.component.proofs.all_zero.Tie as tie

@@ -3,7 +3,7 @@ use mathlib.Core.Path.{_≡_, refl, sym, ap, _∙_}
 use mathlib.Core.List.{List}
 use lib.ListN.{length}
 use borrow.Author.Tests.{not-true, not-false}
-use Rattle.number.specs.Bytes.{partOf, eqBytes}
+use Rattle.bytes_read.specs.Bytes.{partOf, eqBytes}
 use Rattle.component.proofs.Bearing.{too-long, other-field, longer-name, ill-named, as-long}
 use borrow.Author.Needs.{needs}
 use Rattle.component.proofs.is_named.Statement.{statement}
@@ -35,7 +35,8 @@ abbrev start : tie.After-part → tie.Start
 start c = c .before .before .before .before .before .before
 
 -- the comparison of the field with the name
-compared : (c : tie.After-equal-by-words) → let a = start (c .before) .args in c .equal-by-words .result ≡ eqBytes (partOf (a .s .now) 24 (length (a .name .now))) (a .name .now)
+compared : (c : tie.After-equal-by-words) → let a = start (c .before) .args in
+    c .equal-by-words .result ≡ eqBytes (partOf (a .s .now) 24 (length (a .name .now))) (a .name .now)
 compared c = let a = start (c .before) .args in c .equal-by-words .ensures .0 ∙ ap (λ (x : List ℕ). eqBytes x (a .name .now)) (c .before .part .ensures .0)
 
 returns-3 : tie.Need-returns-3
@@ -44,8 +45,8 @@ returns-3 c =
     let a = start (q .before) .args in
     (other-field (a .s .now) (a .name .now) (sym (compared q) ∙ not-true _ (c .if3 .taken)), (refl, refl))
 
-numbers-requires : tie.Need-numbers-requires
-numbers-requires c κs = search needs
+judge-numbers-requires : tie.Need-judge-numbers-requires
+judge-numbers-requires c κs = search needs
 
 enum-known-j : tie.Need-enum-known-j
 enum-known-j c = search needs
@@ -54,7 +55,7 @@ enum-told : tie.Need-enum-told
 enum-told c = search needs
 
 -- the field begins with the name
-abbrev field : tie.After-numbers → tie.Else3
+abbrev field : tie.After-judge-numbers → tie.Else3
 field c = c .before
 
 returns-4 : tie.Need-returns-4
@@ -63,13 +64,13 @@ returns-4 c =
     let q = field j in
     let a = start (q .before .before) .args in
     let begins = sym (compared (q .before)) ∙ not-false _ (q .if3 .left) in
-    (as-long (a .s .now) (a .name .now) begins _ (sym (j .numbers .ensures .0) ∙ c .before .before .j .given .1), (refl, refl))
+    (as-long (a .s .now) (a .name .now) begins _ (sym (j .judge-numbers .ensures .0) ∙ c .before .before .j .given .1), (refl, refl))
 
 returns-5 : tie.Need-returns-5
 returns-5 c =
     let j = c .before .before in
     let a = start (field j .before .before) .args in
-    (ill-named (a .s .now) (a .name .now) (sym (j .numbers .ensures .0) ∙ c .enum-told .given .1), (refl, refl))
+    (ill-named (a .s .now) (a .name .now) (sym (j .judge-numbers .ensures .0) ∙ c .enum-told .given .1), (refl, refl))
 
 pub is-named-spec : {M : Type 1} → statement M
 is-named-spec =
@@ -82,7 +83,7 @@ is-named-spec =
     part-requires
     equal-by-words-requires
     returns-3
-    numbers-requires
+    judge-numbers-requires
     enum-known-j
     enum-told
     returns-4

@@ -22,8 +22,11 @@ returns-2 : tie.Need-returns-2
 unfolding magic
 returns-2 c =
     let e = c .before .before .before in
-    let s = e .before .before .args .s .now in
-    (rw (c .before .before .le64 .ensures .0, c .le642 .ensures .0) (magic-number s (e .if1 .left) (λ j. omega (arith, e .before .shared-slice-known .given j))), refl)
+    let s = e .before .before .args .s .now in (
+      rw (c .before .before .le64 .ensures .0, c .le642 .ensures .0)
+          (magic-number s (e .if1 .left) (λ j. omega (arith, e .before .shared-slice-known .given j))),
+      refl,
+    )
 
 pub starts-with-magic-spec : {M : Type 1} → statement M
 starts-with-magic-spec =

@@ -20,23 +20,23 @@ loop-holds c = (omega arith, sum-none)
 add-loop : tie.Need-add-loop Inv-loop μ-loop
 add-loop c = search needs
 
-add-few : tie.Need-add-few Inv-loop μ-loop
-add-few c = search needs
+add-sum-each : tie.Need-add-sum-each Inv-loop μ-loop
+add-sum-each c = search needs
 
-sub-few : tie.Need-sub-few Inv-loop μ-loop
-sub-few c = search needs
+sub-sum-each : tie.Need-sub-sum-each Inv-loop μ-loop
+sub-sum-each c = search needs
 
-part-few-start : tie.Need-part-few-start Inv-loop μ-loop
-part-few-start c = search needs
+part-sum-each-start : tie.Need-part-sum-each-start Inv-loop μ-loop
+part-sum-each-start c = search needs
 
-part-few-end : tie.Need-part-few-end Inv-loop μ-loop
-part-few-end c = search needs
+part-sum-each-end : tie.Need-part-sum-each-end Inv-loop μ-loop
+part-sum-each-end c = search needs
 
-few-requires : tie.Need-few-requires Inv-loop μ-loop
-few-requires c κs = search needs
+sum-each-requires : tie.Need-sum-each-requires Inv-loop μ-loop
+sum-each-requires c κs = search needs
 
-joined-requires : tie.Need-joined-requires Inv-loop μ-loop
-joined-requires c κs = search needs
+add-sums-requires : tie.Need-add-sums-requires Inv-loop μ-loop
+add-sums-requires c κs = search needs
 
 add-i : tie.Need-add-i Inv-loop μ-loop
 add-i c = search needs
@@ -51,22 +51,22 @@ loop-again c =
     let s = l .before .before .args .s .now in
     let i = l .loop .i in
     let e : i + (i + 64 - i) ≡ i + 64 = omega arith in
-    (omega arith, c .joined .ensures ∙ sum-block s i (i + 64 - i) (l .loop .inv .1) (f .few .ensures) ∙ ap (λ (n : ℕ). total (take n s) % 4294967296) e)
+    (omega arith, c .add-sums .ensures ∙ sum-block s i (i + 64 - i) (l .loop .inv .1) (f .sum-each .ensures) ∙ ap (λ (n : ℕ). total (take n s) % 4294967296) e)
 
-sub-few-2 : tie.Need-sub-few-2 Inv-loop μ-loop
-sub-few-2 c = search needs
+sub-sum-each-2 : tie.Need-sub-sum-each-2 Inv-loop μ-loop
+sub-sum-each-2 c = search needs
 
-part-few-start-2 : tie.Need-part-few-start-2 Inv-loop μ-loop
-part-few-start-2 c = search needs
+part-sum-each-start-2 : tie.Need-part-sum-each-start-2 Inv-loop μ-loop
+part-sum-each-start-2 c = search needs
 
-part-few-end-2 : tie.Need-part-few-end-2 Inv-loop μ-loop
-part-few-end-2 c = search needs
+part-sum-each-end-2 : tie.Need-part-sum-each-end-2 Inv-loop μ-loop
+part-sum-each-end-2 c = search needs
 
-few-requires-2 : tie.Need-few-requires-2 Inv-loop μ-loop
-few-requires-2 c κs = search needs
+sum-each-requires-2 : tie.Need-sum-each-requires-2 Inv-loop μ-loop
+sum-each-requires-2 c κs = search needs
 
-joined-requires-2 : tie.Need-joined-requires-2 Inv-loop μ-loop
-joined-requires-2 c κs = search needs
+add-sums-requires-2 : tie.Need-add-sums-requires-2 Inv-loop μ-loop
+add-sums-requires-2 c κs = search needs
 
 returns : tie.Need-returns Inv-loop μ-loop
 returns c =
@@ -74,7 +74,7 @@ returns c =
     let l = f .before .before .before in
     let s = l .before .before .args .s .now in
     let i = l .loop .i in
-    (c .joined2 .ensures ∙ sum-block s i (length s - i) (l .loop .inv .1) (f .few2 .ensures) ∙ sum-all s (i + (length s - i)) (omega arith), refl)
+    (c .add-sums2 .ensures ∙ sum-block s i (length s - i) (l .loop .inv .1) (f .sum-each2 .ensures) ∙ sum-all s (i + (length s - i)) (omega arith), refl)
 
 pub sum-spec : {M : Type 1} → statement M
 sum-spec =
@@ -84,18 +84,18 @@ sum-spec =
     μ-loop
     loop-holds
     add-loop
-    add-few
-    sub-few
-    part-few-start
-    part-few-end
-    few-requires
-    joined-requires
+    add-sum-each
+    sub-sum-each
+    part-sum-each-start
+    part-sum-each-end
+    sum-each-requires
+    add-sums-requires
     add-i
     loop-less
     loop-again
-    sub-few-2
-    part-few-start-2
-    part-few-end-2
-    few-requires-2
-    joined-requires-2
+    sub-sum-each-2
+    part-sum-each-start-2
+    part-sum-each-end-2
+    sum-each-requires-2
+    add-sums-requires-2
     returns)

@@ -1,8 +1,8 @@
 use mathlib.Core.Path.{refl, _∙_, ap}
 use native.Mathlib.Omega.{arith}
-use Rattle.number.specs.Bytes.{splice}
-use Rattle.number.specs.Number.{beBytes}
-use Rattle.number.proofs.Digits.{length-beBytes}
+use Rattle.bytes_read.specs.Bytes.{splice}
+use Rattle.bytes_read.specs.Number.{beBytes}
+use Rattle.bytes_read.proofs.Numbers.{length-beBytes}
 use Rattle.component.specs.Component.{magic}
 use Rattle.edit_header.proofs.Headers.{begun, more, header-parts}
 use borrow.Author.Needs.{needs}

@@ -2,8 +2,8 @@ use Prim.Native.Nat.{_+_, _*_, _≤_}
 use mathlib.Core.Path.{_≡_, sym, refl, _∙_}
 use native.Mathlib.Omega.{arith}
 use lib.ListN.{length}
-use Rattle.number.specs.Lists.{any}
-use Rattle.area.specs.Area.{cross}
+use Rattle.bytes_read.specs.Lists.{any}
+use Rattle.fmap_area.specs.Area.{cross}
 use Rattle.fmap.specs.Fmap.{areasAt}
 use Rattle.fmap.proofs.Counting.{any-here, any-not, any-end}
 use borrow.Author.Needs.{needs}
@@ -30,7 +30,8 @@ returns c =
     let r = c .before .before in
     let l = r .before .before in
     let a = l .before .before .args in
-    sym (l .loop .inv .1 ∙ any-here (a .s .now) (l .loop .k) (l .loop .p) (omega arith) (l .loop .inv .0) (r .at .ensures .0) (cross (a .a)) (c .before .cross .ensures) (c .if1 .taken))
+    sym (l .loop .inv .1 ∙ any-here (a .s .now) (l .loop .k) (l .loop .p) (omega arith) (l .loop .inv .0) (r .at .ensures .0) (cross (a .a))
+    (c .before .cross .ensures) (c .if1 .taken))
 
 add-p : tie.Need-add-p Inv-loop μ-loop
 add-p c = search needs
@@ -45,8 +46,11 @@ loop-again : tie.Need-loop-again Inv-loop μ-loop
 loop-again c =
     let r = c .before .before in
     let l = r .before .before in
-    let a = l .before .before .args in
-    (omega arith, l .loop .inv .1 ∙ any-not (a .s .now) (l .loop .k) (l .loop .p) (omega arith) (l .loop .inv .0) (r .at .ensures .0) (cross (a .a)) (c .before .cross .ensures) (c .if1 .left))
+    let a = l .before .before .args in (
+      omega arith,
+      l .loop .inv .1 ∙ any-not (a .s .now) (l .loop .k) (l .loop .p) (omega arith) (l .loop .inv .0) (r .at .ensures .0) (cross (a .a))
+          (c .before .cross .ensures) (c .if1 .left),
+    )
 
 returns-2 : tie.Need-returns-2 Inv-loop μ-loop
 returns-2 c =

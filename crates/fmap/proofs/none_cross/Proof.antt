@@ -2,8 +2,8 @@ use Prim.Native.Nat.{_+_, _*_, _≤_}
 use mathlib.Core.Path.{_≡_, sym, refl, _∙_}
 use native.Mathlib.Omega.{arith}
 use lib.ListN.{length}
-use Rattle.number.specs.Lists.{noTwo}
-use Rattle.area.specs.Area.{cross}
+use Rattle.bytes_read.specs.Lists.{noTwo}
+use Rattle.fmap_area.specs.Area.{cross}
 use Rattle.fmap.specs.Fmap.{areasAt}
 use Rattle.fmap.proofs.Counting.{two-here, two-not, two-end}
 use borrow.Author.Needs.{needs}
@@ -36,7 +36,8 @@ returns c =
     let r = c .before .before in
     let l = r .before .before in
     let a = l .before .before .args in
-    sym (l .loop .inv .1 ∙ two-here (a .s .now) (l .loop .k) (l .loop .p) (omega arith) (l .loop .inv .0) (r .at .ensures .0) cross (c .before .crossed .ensures) (c .if1 .taken))
+    sym (l .loop .inv .1 ∙ two-here (a .s .now) (l .loop .k) (l .loop .p) (omega arith) (l .loop .inv .0) (r .at .ensures .0) cross
+    (c .before .crossed .ensures) (c .if1 .taken))
 
 loop-less : tie.Need-loop-less Inv-loop μ-loop
 loop-less c = search needs
@@ -45,8 +46,11 @@ loop-again : tie.Need-loop-again Inv-loop μ-loop
 loop-again c =
     let r = c .before .before in
     let l = r .before .before in
-    let a = l .before .before .args in
-    (omega arith, l .loop .inv .1 ∙ two-not (a .s .now) (l .loop .k) (l .loop .p) (omega arith) (l .loop .inv .0) (r .at .ensures .0) cross (c .before .crossed .ensures) (c .if1 .left))
+    let a = l .before .before .args in (
+      omega arith,
+      l .loop .inv .1 ∙ two-not (a .s .now) (l .loop .k) (l .loop .p) (omega arith) (l .loop .inv .0) (r .at .ensures .0) cross
+          (c .before .crossed .ensures) (c .if1 .left),
+    )
 
 returns-2 : tie.Need-returns-2 Inv-loop μ-loop
 returns-2 c =

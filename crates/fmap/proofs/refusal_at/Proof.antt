@@ -1,6 +1,6 @@
 use mathlib.Core.Path.{sym, _∙_}
 use native.Mathlib.Omega.{arith}
-use Rattle.fmap.proofs.Reading.{Headed, headed, by-header, by-turn, by-whole}
+use Rattle.fmap.proofs.Reading.{HeaderPassed, header-passed, by-header, by-area-tests, by-all-tests}
 use borrow.Author.Needs.{needs}
 use Rattle.fmap.proofs.refusal_at.Statement.{statement}
 use Rattle.fmap.proofs.refusal_at.Tie as tie
@@ -13,8 +13,8 @@ header-refusal-requires c κs = search needs
 abbrev start : tie.After-header-refusal → tie.Start
 start c = c .before .before
 
-head : (c : tie.Else1) → Headed (start (c .before) .args .s .now) (start (c .before) .args .at) (start (c .before) .args .size)
-head c = let a = start (c .before) .args in headed (a .s .now) (a .at) (a .size) (sym (c .before .header-refusal .ensures) ∙ c .if1 .left)
+head : (c : tie.Else1) → HeaderPassed (start (c .before) .args .s .now) (start (c .before) .args .at) (start (c .before) .args .size)
+head c = let a = start (c .before) .args in header-passed (a .s .now) (a .at) (a .size) (sym (c .before .header-refusal .ensures) ∙ c .if1 .left)
 
 returns : tie.Need-returns
 returns c =
@@ -31,21 +31,22 @@ le16-requires c κs = search needs
 cast-count : tie.Need-cast-count
 cast-count c = search needs
 
-add-turn-refusal : tie.Need-add-turn-refusal
-add-turn-refusal c = omega (arith, head (c .before) .within)
+add-each-area-refusal : tie.Need-add-each-area-refusal
+add-each-area-refusal c = omega (arith, head (c .before) .within)
 
-turn-refusal-requires : tie.Need-turn-refusal-requires
-turn-refusal-requires c κs = omega (arith, head (c .before) .within, c .le16 .ensures .0)
+each-area-refusal-requires : tie.Need-each-area-refusal-requires
+each-area-refusal-requires c κs = omega (arith, head (c .before) .within, c .le16 .ensures .0)
 
 returns-2 : tie.Need-returns-2
 returns-2 c =
     let e = c .before .before .before in
     let h = e .before in
     let a = start h .args in
-    by-turn (a .s .now) (a .at) (a .size) (h .header-refusal .ensures) (e .if1 .left) (c .before .before .le16 .ensures .0) (c .before .turn-refusal .ensures) (c .if2 .taken)
+    by-area-tests (a .s .now) (a .at) (a .size) (h .header-refusal .ensures) (e .if1 .left) (c .before .before .le16 .ensures .0)
+    (c .before .each-area-refusal .ensures) (c .if2 .taken)
 
-whole-refusal-requires : tie.Need-whole-refusal-requires
-whole-refusal-requires c κs =
+all-areas-refusal-requires : tie.Need-all-areas-refusal-requires
+all-areas-refusal-requires c κs =
     let n = c .before .before in
     (n .le16 .ensures .0, head (n .before) .within)
 
@@ -55,7 +56,8 @@ returns-3 c =
     let e = t .before .before .before in
     let h = e .before in
     let a = start h .args in
-    by-whole (a .s .now) (a .at) (a .size) (h .header-refusal .ensures) (e .if1 .left) (t .before .before .le16 .ensures .0) (t .before .turn-refusal .ensures) (t .if2 .left) (c .whole-refusal .ensures)
+    by-all-tests (a .s .now) (a .at) (a .size) (h .header-refusal .ensures) (e .if1 .left) (t .before .before .le16 .ensures .0)
+    (t .before .each-area-refusal .ensures) (t .if2 .left) (c .all-areas-refusal .ensures)
 
 pub refusal-at-spec : {M : Type 1} → statement M
 refusal-at-spec =
@@ -66,8 +68,8 @@ refusal-at-spec =
     add-le16
     le16-requires
     cast-count
-    add-turn-refusal
-    turn-refusal-requires
+    add-each-area-refusal
+    each-area-refusal-requires
     returns-2
-    whole-refusal-requires
+    all-areas-refusal-requires
     returns-3)

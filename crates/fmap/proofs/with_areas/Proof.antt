@@ -2,9 +2,9 @@
 use Prim.Native.Nat.{ℕ, _+_, _*_, _-_, _≤_}
 use mathlib.Core.Path.{_≡_, ap, _∙_}
 use native.Mathlib.Omega.{arith}
-use Rattle.number.specs.Lists.{padded}
-use Rattle.area.specs.Area.{unused}
-use Rattle.fmap.specs.Fmap.{areasAt, most}
+use Rattle.bytes_read.specs.Lists.{padded}
+use Rattle.fmap_area.specs.Area.{unusedArea}
+use Rattle.fmap.specs.Fmap.{areasAt, areaLimit}
 use Rattle.fmap.proofs.Counting.{padded-start, padded-next}
 use Rattle.fmap.proofs.Reading.{area-fields}
 use borrow.Author.Needs.{needs}
@@ -12,16 +12,16 @@ use Rattle.fmap.proofs.with_areas.Statement.{statement}
 use Rattle.fmap.proofs.with_areas.Tie as tie
 
 abbrev Inv-loop : tie.InvT-loop
-Inv-loop s h count all₀ p₀ i₀ all p i = (i ≤ count) × (p ≡ h .from + 42 * i) × (all ≡ padded most unused (areasAt s i (h .from)))
+Inv-loop s h count all₀ p₀ i₀ all p i = (i ≤ count) × (p ≡ h .from + 42 * i) × (all ≡ padded areaLimit unusedArea (areasAt s i (h .from)))
 
 abbrev μ-loop : tie.MeasureT-loop
 μ-loop s h count all₀ p₀ i₀ all p i = count - i
 
-unused-requires : tie.Need-unused-requires Inv-loop μ-loop
-unused-requires c κs = search needs
+unused-area-requires : tie.Need-unused-area-requires Inv-loop μ-loop
+unused-area-requires c κs = search needs
 
 loop-holds : tie.Need-loop-holds Inv-loop μ-loop
-loop-holds c = (search needs, search needs, padded-start _ _ (c .unused .ensures))
+loop-holds c = (search needs, search needs, padded-start _ _ (c .unused-area .ensures))
 
 at-requires : tie.Need-at-requires Inv-loop μ-loop
 at-requires c κs = search needs
@@ -53,7 +53,7 @@ returns c =
     let l = c .before in
     let a = l .before .before .before .args in
     let e : l .loop .i ≡ a .h .count = omega arith in
-    area-fields (a .s .now) (a .h) (l .loop .inv .2 ∙ ap (λ (n : ℕ). padded most unused (areasAt (a .s .now) n (a .h .from))) e)
+    area-fields (a .s .now) (a .h) (l .loop .inv .2 ∙ ap (λ (n : ℕ). padded areaLimit unusedArea (areasAt (a .s .now) n (a .h .from))) e)
 
 pub with-areas-spec : {M : Type 1} → statement M
 with-areas-spec =
@@ -61,7 +61,7 @@ with-areas-spec =
     (tie.spec
     Inv-loop
     μ-loop
-    unused-requires
+    unused-area-requires
     loop-holds
     at-requires
     mul-all

@@ -1,35 +1,38 @@
 use Prim.Native.Nat.{ℕ, _≤_, _<_, _+_}
 use mathlib.Core.Path.{_≡_, refl, sym, _∙_}
 use native.Mathlib.Omega.{arith}
-use Rattle.walk.specs.Walk.{carries, nextMagic}
-use Rattle.walk.proofs.Hunting.{carries-end, carries-rest, quiet-past, next-none, next-here, next-not, quiet-end, sooner-found, sooner-none}
+use Rattle.walk.specs.Walk.{magicAt, nextMagic}
+use Rattle.walk.proofs.Searching.{magic-end, magic-rest, no-magic-past, next-none, next-here, next-not, no-magic-end, sooner-found, sooner-none}
 use borrow.Author.Needs.{needs}
 use Rattle.walk.proofs.next_magic.Statement.{statement}
 use Rattle.walk.proofs.next_magic.Tie as tie
 
 -- the place after `stop` is known, and the function's start
-abbrev start : tie.After-least → tie.Start
+abbrev start : tie.After-smaller → tie.Start
 start c = c .before .before .before .before
 
-pos : (c : tie.After-least) → 0 < start c .args .align
+pos : (c : tie.After-smaller) → 0 < start c .args .align
 pos c = let n = c .before .before .if1 .left in omega (arith, n)
 
-most : (c : tie.After-least) → c .least .result ≤ start c .args .below
-most c = let e = c .least .ensures in omega (arith, e)
+most : (c : tie.After-smaller) → c .smaller .result ≤ start c .args .below
+most c = let e = c .smaller .ensures in omega (arith, e)
 
--- from stop on the hunt finds nothing
-late : (c : tie.After-least) (n : ℕ) → c .least .result ≤ n → nextMagic (start c .args .r .now) (start c .args .align) n (start c .args .below) ≡ start c .args .below
+-- from stop on the search finds nothing
+late : (c : tie.After-smaller) (n : ℕ) → c .smaller .result ≤ n
+    → nextMagic (start c .args .r .now) (start c .args .align) n (start c .args .below) ≡ start c .args .below
 late c n h =
     let a = start c .args in
-    quiet-end (a .r .now) (a .align) (pos c) (c .least .result) (a .below) (quiet-past (a .r .now) (a .below) (c .least .result) (c .least .ensures)) n h
+    no-magic-end (a .r .now) (a .align) (pos c) (c .smaller .result) (a .below)
+    (no-magic-past (a .r .now) (a .below) (c .smaller .result) (c .smaller .ensures)) n h
 
-far : (c : tie.Then4) → c .before .before .least .result ≤ start (c .before .before) .args .from + start (c .before .before) .args .align
+far : (c : tie.Then4) → c .before .before .smaller .result ≤ start (c .before .before) .args .from + start (c .before .before) .args .align
 far c = let h = c .if4 .taken in omega (arith, h)
 
-here : (c : tie.After-starts-with-magic) → carries (start (c .before .before .before .before) .args .r .now) (start (c .before .before .before .before) .args .from) ≡ c .starts-with-magic .result
+here : (c : tie.After-starts-with-magic)
+    → magicAt (start (c .before .before .before .before) .args .r .now) (start (c .before .before .before .before) .args .from) ≡ c .starts-with-magic .result
 here c =
     let a = start (c .before .before .before .before) .args in
-    carries-rest (a .r .now) (a .from) (c .starts-with-magic .ensures .0)
+    magic-rest (a .r .now) (a .from) (c .starts-with-magic .ensures .0)
 
 returns : tie.Need-returns
 returns c =
@@ -39,13 +42,13 @@ returns c =
 returns-2 : tie.Need-returns-2
 returns-2 c =
     let a = c .before .before .before .args in
-    (sym (quiet-end (a .r .now) (a .align) (omega arith) 0 (a .below) (λ x h l. carries-end (a .r .now) x (omega arith)) (a .from) (omega arith)), refl)
+    (sym (no-magic-end (a .r .now) (a .align) (omega arith) 0 (a .below) (λ x h l. magic-end (a .r .now) x (omega arith)) (a .from) (omega arith)), refl)
 
-sub-least : tie.Need-sub-least
-sub-least c = search needs
+sub-smaller : tie.Need-sub-smaller
+sub-smaller c = search needs
 
-least-requires : tie.Need-least-requires
-least-requires c κs = search needs
+smaller-requires : tie.Need-smaller-requires
+smaller-requires c κs = search needs
 
 returns-3 : tie.Need-returns-3
 returns-3 c = (sym (late (c .before) (start (c .before) .args .from) (c .if3 .taken)), refl)
@@ -69,34 +72,43 @@ returns-4 : tie.Need-returns-4
 returns-4 c =
     let s = c .before in
     let m = s .before .before .before .before in
-    let a = start m .args in
-    (sym (next-here (a .r .now) (a .align) (pos m) (a .from) (a .below) (omega (arith, most m, s .before .before .before .if3 .left)) (here s ∙ c .if5 .taken)), refl)
+    let a = start m .args in (
+      sym (next-here (a .r .now) (a .align) (pos m) (a .from) (a .below) (omega (arith, most m, s .before .before .before .if3 .left))
+          (here s ∙ c .if5 .taken)),
+      refl,
+    )
 
 returns-5 : tie.Need-returns-5
 returns-5 c =
     let s = c .before in
     let m = s .before .before .before .before in
-    let a = start m .args in
-    (sym (next-not (a .r .now) (a .align) (pos m) (a .from) (a .below) (omega (arith, most m, s .before .before .before .if3 .left)) (here s ∙ c .if5 .left) ∙ late m (a .from + a .align) (far (s .before .before))), refl)
+    let a = start m .args in (
+      sym (next-not (a .r .now) (a .align) (pos m) (a .from) (a .below) (omega (arith, most m, s .before .before .before .if3 .left)) (here s ∙ c .if5 .left)
+          ∙ late m (a .from + a .align) (far (s .before .before))),
+      refl,
+    )
 
-hunt-requires : tie.Need-hunt-requires
-hunt-requires c κs = search needs
+search-requires : tie.Need-search-requires
+search-requires c κs = search needs
 
 returns-6 : tie.Need-returns-6
 returns-6 c =
     let h = c .before in
     let m = h .before .before .before in
     let a = start m .args in
-    let f : nextMagic (a .r .now) (a .align) (a .from) (m .least .result) < m .least .result = omega (arith, h .hunt .ensures, c .if6 .taken) in
-    (h .hunt .ensures ∙ sym (sooner-found (a .r .now) (a .align) (pos m) (a .from) (m .least .result) (a .below) (most m) f), refl)
+    let f : nextMagic (a .r .now) (a .align) (a .from) (m .smaller .result) < m .smaller .result = omega (arith, h .search .ensures, c .if6 .taken) in
+    (h .search .ensures ∙ sym (sooner-found (a .r .now) (a .align) (pos m) (a .from) (m .smaller .result) (a .below) (most m) f), refl)
 
 returns-7 : tie.Need-returns-7
 returns-7 c =
     let h = c .before in
     let m = h .before .before .before in
     let a = start m .args in
-    let f : m .least .result ≤ nextMagic (a .r .now) (a .align) (a .from) (m .least .result) = omega (arith, h .hunt .ensures, c .if6 .left) in
-    (sym (sooner-none (a .r .now) (a .align) (pos m) (a .from) (m .least .result) (a .below) (most m) (quiet-past (a .r .now) (a .below) (m .least .result) (m .least .ensures)) f), refl)
+    let f : m .smaller .result ≤ nextMagic (a .r .now) (a .align) (a .from) (m .smaller .result) = omega (arith, h .search .ensures, c .if6 .left) in (
+      sym (sooner-none (a .r .now) (a .align) (pos m) (a .from) (m .smaller .result) (a .below) (most m)
+          (no-magic-past (a .r .now) (a .below) (m .smaller .result) (m .smaller .ensures)) f),
+      refl,
+    )
 
 pub next-magic-spec : {M : Type 1} → statement M
 next-magic-spec =
@@ -104,8 +116,8 @@ next-magic-spec =
     (tie.spec
     returns
     returns-2
-    sub-least
-    least-requires
+    sub-smaller
+    smaller-requires
     returns-3
     sub-if4
     sub-starts-with-magic
@@ -114,6 +126,6 @@ next-magic-spec =
     starts-with-magic-requires
     returns-4
     returns-5
-    hunt-requires
+    search-requires
     returns-6
     returns-7)

@@ -1,9 +1,0 @@
-use mathlib.Core.Path.{refl}
-use Rattle.area.proofs.unused.Statement.{statement}
-use Rattle.area.proofs.unused.Tie as tie
-
-returns : tie.Need-returns
-returns c = refl
-
-pub unused-spec : {M : Type 1} → statement M
-unused-spec = tie.close (tie.spec returns)

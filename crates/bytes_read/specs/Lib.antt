@@ -1,0 +1,5 @@
+pub mod Number
+pub mod Bytes
+pub mod Tests
+pub mod Lists
+pub mod Printable

@@ -1,3 +1,0 @@
-pub mod Burying
-pub mod Choosing
-pub mod Worked

@@ -1,1 +1,0 @@
-// What edits of a region are, and what they promise (document 01, "Edits"): definitions and theorems alone. The crate `editor` carries them out.

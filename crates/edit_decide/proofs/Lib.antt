@@ -1,0 +1,3 @@
+pub mod ContainsMagic
+pub mod Choices
+pub mod Worked

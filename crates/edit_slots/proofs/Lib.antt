@@ -1,0 +1,2 @@
+pub mod SlotsByPlaces
+pub mod Worked

@@ -1,0 +1,4 @@
+pub mod Writing
+pub mod Writes
+pub mod Around
+pub mod Worked

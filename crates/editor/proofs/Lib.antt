@@ -1,4 +1,0 @@
-pub mod Writing
-pub mod Faces
-pub mod Around
-pub mod Worked

@@ -1,0 +1,13 @@
+pub mod Theorems
+pub mod Images
+pub mod Corruption
+pub mod Accepting
+pub mod EditsDone
+pub mod Edits
+pub mod Sums
+pub mod Plans
+pub mod WorkedPlans
+pub mod Refusing
+pub mod Parts
+pub mod Limits
+pub mod WorkedImages

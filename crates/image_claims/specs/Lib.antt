@@ -1,0 +1,5 @@
+pub mod Corruption
+pub mod EditsDone
+pub mod Table
+pub mod Parts
+pub mod Limits

@@ -1,5 +1,0 @@
-pub mod Number
-pub mod Bytes
-pub mod Tests
-pub mod Lists
-pub mod Letters

@@ -1,3 +1,0 @@
-pub mod Signing
-pub mod Exactly
-pub mod Worked

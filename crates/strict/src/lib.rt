@@ -1,1 +1,0 @@
-// What the strict check is, and what spoiled slots leave as it was (document 01, "Components and the two walks"; the order, demand 3): definitions and theorems alone. The crate `checker` carries it out.

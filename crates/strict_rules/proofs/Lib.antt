@@ -1,0 +1,10 @@
+pub mod Picked
+pub mod Frames
+pub mod Bearing
+pub mod Slots
+pub mod Accepting
+pub mod Reasons
+pub mod Verdicts
+pub mod Untaken
+pub mod Example
+pub mod Exactly

@@ -1,4 +1,0 @@
-pub mod Orders
-pub mod Tables
-pub mod Regions
-pub mod Worked
