@@ -173,7 +173,7 @@ fn plan_holds(number: u32, case: &Case, index: usize) -> bool {
 fn both() -> Vec<Both> {
     let mut list = master_both("sy");
 
-    // Offset off a multiple of align; a name that two components have, by components of another type.
+    // Offset off a multiple of align; a name that two components of another type have.
     let twice = |frame: &Frame| {
         let mut image = vec![0xA5; 1024];
         put(&mut image, 64, &Raw::new(b"a", 0x77, b"").bytes());

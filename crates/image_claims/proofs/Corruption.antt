@@ -58,7 +58,7 @@ module _ (i : List ℕ) (g : Region) (read : master i ≡ Read g) (acc : Accepte
       → listedFromImageSlots set i g (placed g t) ≡ inSlots inner (regionBytes i g) (g .align) (t .place)
   slot-from-start x e t m = slot-inner i g read set i (t .place) (omega (arith, given true (regionBytes x g) (g .align) t m .inside, bytes-length i g read x e))
 
-  -- The name is that of no component else on the accepted image.
+  -- No other component of the accepted image has the name.
   alone : (t : Entry) → List·Memᴰ t (guardedListing (regionBytes i g) (g .align))
       → guardedLookup (regionBytes i g) (g .align) (t .component .name) ≡ lookupGives t
   unfolding onlyOrRefused

@@ -1,4 +1,4 @@
--- Lookups by name (document 01, "Components and the two walks"). Any bytes may be asked for; an unfit name is that of no component.
+-- Lookups by name (document 01, "Components and the two walks"). Any bytes may be asked for; no component has an unfit name.
 use Prim.Native.Nat.{ℕ, _+_}
 use mathlib.Core.Path.{_≡_}
 use mathlib.Core.List.{List, [], _∷_, _++_, List·Memᴰ}
