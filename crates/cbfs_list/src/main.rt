@@ -1,8 +1,10 @@
 // The listing program: an image of at most 65,536 bytes from standard input, listed by the plain walk (document 01, "Bench image A").
 // The listing is gathered on a page, whose first `used` bytes are in use, and written once.
-use cbfs::Master;
-use cbfs::Step;
-use cbfs::Taken;
+// The master header is read once, and the walk asked over its region, so that the program stands on few crates and is soon proved.
+use cbfs_types::Master;
+use cbfs_types::Region;
+use cbfs_types::Step;
+use cbfs_types::Taken;
 use libc::STDIN_FILENO;
 use libc::STDOUT_FILENO;
 
@@ -15,12 +17,12 @@ fn put_number(page: &mut Page, used: usize, n: usize) -> usize {
     program_text::put(page, used, &digits[..k])
 }
 
-fn put_component(page: &mut Page, used: usize, image: &[u8], t: Taken) -> usize {
+fn put_component(page: &mut Page, used: usize, image: &[u8], region: Region, t: Taken) -> usize {
     let h = t.header;
     let digits = program_text::type_digits(h.kind);
     let mut at = put_number(page, used, t.place);
     at = program_text::put(page, at, b"\t");
-    at = program_text::put(page, at, cbfs::name_at(image, t.place));
+    at = program_text::put(page, at, region_read::name_at_in(image, region, t.place));
     at = program_text::put(page, at, b"\t");
     at = program_text::put(page, at, &digits);
     at = program_text::put(page, at, b"\t");
@@ -37,15 +39,15 @@ fn put_line(page: &mut Page, used: usize, word: &[u8], n: usize) -> usize {
 
 // The whole listing from the region's start. An image has fewer components than bytes, so the bound on the count is never met;
 // and no step from where the last one left off is refused.
-fn put_listing(page: &mut Page, image: &[u8], start: usize) -> usize {
+fn put_listing(page: &mut Page, image: &[u8], region: Region) -> usize {
     let mut at = program_text::put(page, 0, b"place\tname\ttype\tlength\n");
-    let mut from = start;
+    let mut from = region.start;
     let mut count = 0;
     while count < image.len() {
-        let s = cbfs::plain_step(image, from);
+        let s = region_read::step_in(false, image, region, from);
         match s {
             Step::Took(t) => {
-                at = put_component(page, at, image, t);
+                at = put_component(page, at, image, region, t);
                 from = t.next;
                 count += 1;
             }
@@ -64,9 +66,9 @@ fn put_answer(page: &mut Page, image: &[u8]) -> usize {
     if 65536 < image.len() {
         return put_line(page, 0, b"refused\t", 1);
     }
-    let m = cbfs::region(image);
+    let m = master_header::read(image);
     match m {
-        Master::Read(r) => put_listing(page, image, r.start),
+        Master::Read(g) => put_listing(page, image, g),
         Master::Refused(r) => put_line(page, 0, b"refused\t", r.number as usize),
     }
 }

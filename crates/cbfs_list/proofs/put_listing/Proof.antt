@@ -6,10 +6,10 @@ use Rattle.cbfs_list.proofs.put_listing.Statement.{statement}
 use Rattle.cbfs_list.proofs.put_listing.Tie as tie
 
 abbrev Inv-loop : tie.InvT-loop
-Inv-loop page₀ image start at₀ from₀ count₀ t10 page at from count = Unit {0}
+Inv-loop page₀ image region at₀ from₀ count₀ t10 page at from count = Unit {0}
 
 abbrev μ-loop : tie.MeasureT-loop
-μ-loop page₀ image start at₀ from₀ count₀ t10 page at from count = length image - count
+μ-loop page₀ image region at₀ from₀ count₀ t10 page at from count = length image - count
 
 slice-aggregate-put : tie.Need-slice-aggregate-put Inv-loop μ-loop
 slice-aggregate-put c = search needs
@@ -20,8 +20,8 @@ put-requires c κs = search needs
 loop-holds : tie.Need-loop-holds Inv-loop μ-loop
 loop-holds c = search needs
 
-plain-step-requires : tie.Need-plain-step-requires Inv-loop μ-loop
-plain-step-requires c κs = search needs
+step-in-requires : tie.Need-step-in-requires Inv-loop μ-loop
+step-in-requires c κs = search needs
 
 enum-known-s : tie.Need-enum-known-s Inv-loop μ-loop
 enum-known-s c = search needs
@@ -62,7 +62,7 @@ put-listing-spec =
     slice-aggregate-put
     put-requires
     loop-holds
-    plain-step-requires
+    step-in-requires
     enum-known-s
     put-component-requires
     add-count
