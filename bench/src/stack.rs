@@ -97,9 +97,9 @@ fn loaded() -> Vec<u8> {
     put_whole(&mut image, 128, b"stage", 0x10, &stage);
     let mut payload = Vec::new();
     for k in 0..16u32 {
-        // type and compression, then offset from the content, load_addr, len and mem_len
+        // type and compression, then offset from the header, load_addr, len and mem_len
         payload.extend_from_slice(if k < 15 { b"CODE" } else { b"ENTR" });
-        let numbers = [0, k, 0, k << 8, 16, 256];
+        let numbers = [0, 40 + k, 0, k << 8, 16, 256];
         payload.extend(numbers.iter().flat_map(|n| n.to_be_bytes()));
     }
     put_whole(&mut image, 1024, b"payload", 0x20, &payload);

@@ -19,7 +19,7 @@ impl Batch {
     }
 }
 
-/// A case whose answer stands in document 01, or follows from request 2, 5 or 6 of document 02, written out.
+/// A case whose answer stands in document 01, or follows from request 5 or 6 of document 02, written out.
 pub struct Literal {
     pub case: Case,
     pub answer: String,

@@ -1,5 +1,4 @@
 //! Document 01, "Load plans": stage and payload plans of a component found by the guarded lookup.
-//! A segment's offset counts from the start of the content, by request 2 of document 02.
 
 use crate::bytes::{big32, little32, little64};
 use crate::master;
@@ -69,8 +68,7 @@ pub fn overlap(one: (u64, u32), other: (u64, u32)) -> bool {
 pub fn stage(image: &[u8], name: &[u8]) -> Result<Stage, u32> {
     let component = component(image, name, STAGE)?;
     let at = component.content;
-    let length = component.end - at;
-    if length < RECORD {
+    if component.end - at < RECORD {
         return Err(19);
     }
     let stage = Stage {
@@ -84,8 +82,7 @@ pub fn stage(image: &[u8], name: &[u8]) -> Result<Stage, u32> {
     if stage.compression > 2 {
         return Err(22);
     }
-    // The binary follows the header and must fit what remains.
-    if RECORD + stage.len as usize > length {
+    if stage.source + stage.len as usize > component.end {
         return Err(23);
     }
     if stage.compression == 0 && stage.len > stage.memlen {
@@ -99,7 +96,6 @@ pub fn stage(image: &[u8], name: &[u8]) -> Result<Stage, u32> {
 
 pub fn payload(image: &[u8], name: &[u8]) -> Result<Vec<Segment>, u32> {
     let component = component(image, name, PAYLOAD)?;
-    let length = component.end - component.content;
     let mut list: Vec<Segment> = Vec::new();
     loop {
         if list.len() == MOST {
@@ -128,12 +124,11 @@ pub fn payload(image: &[u8], name: &[u8]) -> Result<Vec<Segment>, u32> {
             if compression > 2 {
                 return Err(22);
             }
-            // Request 2: offset counts from the payload's first record, which is the start of the content, so no source starts before
-            // the content. It must end at the content's length or below, even if it is empty.
-            if offset + len as usize > length {
+            let source = component.place + offset;
+            if source < component.content || source + len as usize > component.end {
                 return Err(23);
             }
-            segment = Segment { compression, source: component.content + offset, len, ..segment };
+            segment = Segment { compression, source, len, ..segment };
         }
         if has_source && has_target && compression == 0 && len > memlen {
             return Err(24);

@@ -1,4 +1,4 @@
-//! The capability "plans": operations s and y. Document 01, "Load plans", with offsets counted by request 2 of document 02.
+//! The capability "plans": operations s and y. Document 01, "Load plans".
 
 use std::sync::Arc;
 
@@ -110,13 +110,10 @@ fn payload_bytes(records: &[Record], rest: usize) -> Vec<u8> {
 const PLACE: usize = 128;
 
 fn holding(kind: u32, name: &[u8], content: &[u8]) -> Arc<Vec<u8>> {
-    standing(Raw::new(name, kind, content), 0)
-}
-
-/// The same for any component, with so many bytes between its end and the region's.
-fn standing(raw: Raw, beyond: usize) -> Arc<Vec<u8>> {
+    let raw = Raw::new(name, kind, content);
     let raw = if walk::sum(&raw.bytes()) % 2 == 1 { raw.summed() } else { raw };
-    let end = PLACE + raw.bytes().len() + beyond;
+    let size = raw.bytes().len();
+    let end = PLACE + size;
     let length = end + 60;
     let mut image = vec![0xEE; length];
     put(&mut image, 64, &Raw::new(b"before", 0x50, b"table").bytes());
@@ -127,26 +124,11 @@ fn standing(raw: Raw, beyond: usize) -> Arc<Vec<u8>> {
 }
 
 fn ask_stage(content: &[u8], note: &'static str) -> Case {
-    ask(b's', TIGHT, content, note)
+    Case::new(b's', &holding(STAGE, b"boot", content), note).named(b"boot")
 }
 
 fn ask_payload(content: &[u8], note: &'static str) -> Case {
-    ask(b'y', TIGHT, content, note)
-}
-
-/// How a component stands: the bytes of its name field, and the bytes between its end and the region's.
-type Stand = (usize, usize);
-
-/// The shortest name field, and a region that ends with the component.
-const TIGHT: Stand = (16, 0);
-/// Others: the content stands 40, 56 or 280 bytes after the header, and two of the regions go on after it.
-const STANDS: [Stand; 3] = [(16, 200), (32, 0), (256, 200)];
-
-/// The plan of a stage (`s`) or a payload (`y`) that stands so.
-fn ask(op: u8, (field, beyond): Stand, content: &[u8], note: &'static str) -> Case {
-    let kind = if op == b's' { STAGE } else { PAYLOAD };
-    let raw = Raw::new(b"boot", kind, content).with_field(field);
-    Case::new(op, &standing(raw, beyond), note).named(b"boot")
+    Case::new(b'y', &holding(PAYLOAD, b"boot", content), note).named(b"boot")
 }
 
 /// The conditions of 18 to 26 by themselves, for a component at `PLACE` with the name boot, in its record number `index`
@@ -170,15 +152,14 @@ fn plan_holds(number: u32, case: &Case, index: usize) -> bool {
     } else {
         word(12, true).unwrap_or(0) << 32 | word(16, true).unwrap_or(0)
     };
-    // Counted from the start of the content: a stage's binary follows its header, a segment's bytes stand at its offset.
-    let offset = if stage { 28 } else { word(8, true).unwrap_or(0) };
+    let source = if stage { at as u64 + 28 } else { PLACE as u64 + word(8, true).unwrap_or(0) };
     match number {
         18 => kind != if stage { STAGE } else { PAYLOAD },
         19 => at + 28 > end,
         20 => word(0, false).is_some_and(|kind| ![CODE, DATA, BSS, PARAMS, ENTRY].contains(&(kind as u32))),
         21 => index >= 16 && (0..16).all(|record| little32(image, content + 28 * record) != ENTRY),
         22 => compression.is_some_and(|value| value > 2),
-        23 => offset + len > (end - content) as u64,
+        23 => source < content as u64 || source + len > end as u64,
         24 => compression == Some(0) && len > memlen,
         25 => load as u128 + memlen as u128 > 1 << 64,
         _ => (0..index).any(|record| {
@@ -234,8 +215,8 @@ fn both() -> Vec<Both> {
     list.push(pair(ask_stage(&StageFields { len: 9, ..base.clone() }.bytes(), "two refusals"), 23, 24, 0));
     list.push(pair(ask_stage(&StageFields { memlen: 7, load: high, ..base }.bytes(), "two refusals"), 24, 25, 0));
 
-    // Two records and 8 bytes after them: a content of 64 bytes.
-    let code = Record { kind: CODE, compression: 0, offset: 56, load: 0x1000, len: 8, memlen: 8 };
+    // Content starts 40 bytes after the header; two records and 8 bytes after them.
+    let code = Record { kind: CODE, compression: 0, offset: 96, load: 0x1000, len: 8, memlen: 8 };
     let one = |record: Record, rest: usize| ask_payload(&payload_bytes(&[record, entry(0)], rest), "two refusals");
     let bss = |index: u64| Record { kind: BSS, compression: 0, offset: 0, load: 0x100 * index, len: 0, memlen: 1 };
     let sixteen: Vec<Record> = (0..16).map(bss).collect();
@@ -245,14 +226,12 @@ fn both() -> Vec<Both> {
     cut.truncate(27);
     list.push(pair(ask_payload(&cut, "two refusals"), 19, 20, 0));
     list.push(pair(one(Record { kind: 7, compression: 3, ..code }, 8), 20, 22, 0));
-    list.push(pair(one(Record { compression: 3, offset: 57, ..code }, 8), 22, 23, 0));
-    list.push(pair(one(Record { kind: PARAMS, compression: 3, offset: 65, len: 0, ..code }, 8), 22, 23, 0));
+    list.push(pair(one(Record { compression: 3, offset: 97, ..code }, 8), 22, 23, 0));
+    list.push(pair(one(Record { kind: PARAMS, compression: 3, offset: 39, ..code }, 8), 22, 23, 0));
     list.push(pair(one(Record { len: 9, ..code }, 8), 23, 24, 0));
-    // This offset and this len add up to 2^32.
-    list.push(pair(one(Record { kind: DATA, offset: 0xFFFF_FFF8, memlen: 7, ..code }, 8), 23, 24, 0));
     list.push(pair(one(Record { kind: DATA, memlen: 7, load: high, ..code }, 8), 24, 25, 0));
     let top = Record { load: u64::MAX - 15, memlen: 16, ..code };
-    let two = [Record { offset: 84, ..top }, Record { offset: 84, load: u64::MAX - 7, ..top }, entry(0)];
+    let two = [Record { offset: 124, ..top }, Record { offset: 124, load: u64::MAX - 7, ..top }, entry(0)];
     list.push(pair(ask_payload(&payload_bytes(&two, 8), "two refusals"), 25, 26, 1));
     list
 }
@@ -268,13 +247,13 @@ fn bench() -> Vec<Literal> {
     // CODE at 0x1000 for 0x100: BSS of 16 bytes at 0x1100 accepted, at 0x10FF: 26.
     for (at, good) in [(0x1100, true), (0x10FF, false), (0x0FF0, true), (0x0FF1, false)] {
         let records = [
-            Record { kind: CODE, compression: 0, offset: 84, load: 0x1000, len: 0x100, memlen: 0x100 },
+            Record { kind: CODE, compression: 0, offset: 124, load: 0x1000, len: 0x100, memlen: 0x100 },
             Record { kind: BSS, compression: 9, offset: 9, load: at, len: 9, memlen: 16 },
             entry(0x1000),
         ];
         let case = ask_payload(&payload_bytes(&records, 0x100), "bench");
         let answer = if good {
-            // The source stands at 128 + 40 + 84.
+            // The source stands at 128 + 124.
             format!(
                 "payload\t3\t0\nsegment\t1162104643\t0\t252\t4096\t256\t256\n\
                  segment\t542331714\t0\t0\t{at}\t0\t16\nsegment\t1381256773\t0\t0\t4096\t0\t0\n"
@@ -314,131 +293,6 @@ fn bench() -> Vec<Literal> {
         let answer = if good { "payload\t1\t0\nsegment\t1381256773\t0\t0\t1\t0\t0\n" } else { "refused\t10\t0\t0\n" };
         list.push(Literal { case, answer: answer.into() });
     }
-    list.extend(bench_segment_sources());
-    list.extend(bench_other_sources());
-    list
-}
-
-/// Request 2: offset counts from the start of the content, here of 100 bytes, and 23 is offset + len above 100. The content stands 40, 56
-/// or 280 bytes after the header at 128.
-fn bench_segment_sources() -> Vec<Literal> {
-    let fitting = [
-        // The widest allowed; others that begin with the content or end with it, empty ones too.
-        (0, 100, [168, 184, 408]),
-        (0, 1, [168, 184, 408]),
-        (0, 0, [168, 184, 408]),
-        (1, 99, [169, 185, 409]),
-        (99, 1, [267, 283, 507]),
-        (100, 0, [268, 284, 508]),
-        // Counted from a header 40 or 56 bytes before the content, these would begin one byte before the content, or with it.
-        (39, 61, [207, 223, 447]),
-        (40, 60, [208, 224, 448]),
-        (55, 45, [223, 239, 463]),
-        (56, 44, [224, 240, 464]),
-    ];
-    let past = [
-        // One past the end.
-        (0, 101),
-        (1, 100),
-        (40, 61),
-        (56, 45),
-        (99, 2),
-        (100, 1),
-        (101, 0),
-        // Counted from the header 40, 56 or 280 bytes before the content, these would be its last 36 bytes, or empty and at its end.
-        (104, 36),
-        (120, 36),
-        (344, 36),
-        (140, 0),
-        (156, 0),
-        (380, 0),
-        // The sum is 2^32, and then 1, 4 or 100 more: in 32 bits it would be in the content.
-        (0xFFFF_FFFF, 1),
-        (1, 0xFFFF_FFFF),
-        (0x8000_0000, 0x8000_0000),
-        (0xFFFF_FFD8, 40),
-        (0xFFFF_FFFF, 2),
-        (0xFFFF_FFD8, 44),
-        (0xFFFF_FFFF, 101),
-        (101, 0xFFFF_FFFF),
-        // One of the two is far too large, or both are.
-        (0xFFFF_FFFF, 0),
-        (0, 0xFFFF_FFFF),
-        (0x8000_0000, 0),
-        (0x7FFF_FFFF, 1),
-        (0xFFFF_FFFF, 0xFFFF_FFFF),
-    ];
-    let mut list = Vec::new();
-    for (index, stand) in [(16, 0), (32, 200), (256, 0)].into_iter().enumerate() {
-        let targets = [(CODE, 1162104643, 32768, 4), (DATA, 1096040772, 32768, 4), (PARAMS, 1095909712, 0, 0)];
-        for (kind, number, load, memlen) in targets {
-            let case = |offset: u32, len: u32| {
-                let record = Record { kind, compression: 1, offset, load: 0x8000, len, memlen: 4 };
-                ask(b'y', stand, &payload_bytes(&[record, entry(1)], 44), "bench")
-            };
-            for (offset, len, places) in fitting {
-                let source = places[index];
-                let answer = format!(
-                    "payload\t2\t0\nsegment\t{number}\t1\t{source}\t{load}\t{len}\t{memlen}\n\
-                     segment\t1381256773\t0\t0\t1\t0\t0\n"
-                );
-                list.push(Literal { case: case(offset, len), answer });
-            }
-            for (offset, len) in past {
-                list.push(Literal { case: case(offset, len), answer: "refused\t23\t0\t0\n".into() });
-            }
-        }
-    }
-    list
-}
-
-/// Sources of later records, of records that have none, and of stages.
-fn bench_other_sources() -> Vec<Literal> {
-    let mut list = Vec::new();
-    // Offsets count from the first record in the others too. Sources may overlap each other and the records. The content has 120 bytes.
-    for (len, good) in [(120, true), (121, false)] {
-        let records = [
-            Record { kind: PARAMS, compression: 0, offset: 28, load: 7, len: 4, memlen: 7 },
-            Record { kind: CODE, compression: 0, offset: 0, load: 0x1000, len: 28, memlen: 28 },
-            Record { kind: DATA, compression: 2, offset: 0, load: 0x2000, len, memlen: 0 },
-            entry(1),
-        ];
-        let answer = if good {
-            "payload\t4\t0\nsegment\t1095909712\t0\t196\t0\t4\t0\nsegment\t1162104643\t0\t168\t4096\t28\t28\n\
-             segment\t1096040772\t2\t168\t8192\t120\t0\nsegment\t1381256773\t0\t0\t1\t0\t0\n"
-        } else {
-            "refused\t23\t0\t0\n"
-        };
-        list.push(Literal { case: ask_payload(&payload_bytes(&records, 8), "bench"), answer: answer.into() });
-    }
-    // BSS and ENTRY have no source: whatever stands in the fields is not judged. The content has 56 bytes.
-    for (offset, len) in [(57, 0), (0, 57), (0xFFFF_FFFF, 1), (0xFFFF_FFFF, 0xFFFF_FFFF)] {
-        let bss = Record { kind: BSS, compression: 1, offset, load: 0x8000, len, memlen: 4 };
-        let records = [bss, Record { kind: ENTRY, load: 1, ..bss }];
-        let answer = "payload\t2\t0\nsegment\t542331714\t0\t0\t32768\t0\t4\nsegment\t1381256773\t0\t0\t1\t0\t0\n";
-        list.push(Literal { case: ask_payload(&payload_bytes(&records, 0), "bench"), answer: answer.into() });
-    }
-    // A stage's binary follows its 28 bytes: 23 is 28 + len above the content's length, which is 44 or 28. 0xFFFFFFE4 is 2^32 - 28.
-    for (stand, source) in [((16, 0), 196), ((32, 200), 212), ((256, 0), 436)] {
-        for (rest, len, good) in [
-            (16, 16, true),
-            (16, 17, false),
-            (16, 15, true),
-            (16, 0, true),
-            (0, 0, true),
-            (0, 1, false),
-            (16, 44, false),
-            (16, 0x8000_0000, false),
-            (16, 0xFFFF_FFE3, false),
-            (16, 0xFFFF_FFE4, false),
-            (16, 0xFFFF_FFE5, false),
-            (16, 0xFFFF_FFFF, false),
-        ] {
-            let stage = StageFields { compression: 1, entry: 0x1000, load: 0x1000, len, memlen: 16, rest };
-            let answer = if good { format!("stage\t1\t4096\t4096\t{source}\t{len}\t16\n") } else { "refused\t23\t0\t0\n".into() };
-            list.push(Literal { case: ask(b's', stand, &stage.bytes(), "bench"), answer });
-        }
-    }
     list
 }
 
@@ -461,17 +315,11 @@ fn stages(rng: &mut Rng, cases: &mut Vec<Case>) {
     cases.push(ask_stage(&zero.bytes(), "stage"));
     zero.load = u64::MAX;
     cases.push(ask_stage(&zero.bytes(), "stage"));
-    let lens = [0, 39, 40, 41, 0xFFFF_FFFF, 0xFFFF_FFE3, 0xFFFF_FFE4, 0xFFFF_FFE5, 0x8000_0000];
     for compression in EDGES_32 {
-        for len in lens {
+        for len in [0, 39, 40, 41, 0xFFFF_FFFF, 0xFFFF_FFE4, 0x8000_0000] {
             for memlen in [0, 38, 39, 40, 41, 0xFFFF_FFFF] {
                 cases.push(ask_stage(&StageFields { compression, len, memlen, ..base.clone() }.bytes(), "stage"));
             }
-        }
-    }
-    for (stand, len) in STANDS.into_iter().flat_map(|stand| lens.map(|len| (stand, len))) {
-        for compression in [0, 1, 2] {
-            cases.push(ask(b's', stand, &StageFields { compression, len, ..base.clone() }.bytes(), "stage"));
         }
     }
     for memlen in [0u32, 1, 2, 40, 41, 0xFFFF_FFFF] {
@@ -489,39 +337,38 @@ fn stages(rng: &mut Rng, cases: &mut Vec<Case>) {
     }
 }
 
-fn distinct(mut numbers: Vec<u32>) -> Vec<u32> {
-    numbers.sort();
-    numbers.dedup();
-    numbers
-}
-
-/// A record with its source at and beside each edge of a content of `total` bytes that stands `head` bytes after the header.
-fn sources(base: Record, head: u32, total: u32) -> Vec<Record> {
-    let mut offsets = vec![0, 1, 24, total - 5, total - 4, total - 3, total - 1, total, total + 1];
-    // Where the content's edges would be if offsets counted from the header, this one or one with the shortest name field.
-    offsets.extend([39, 40, 41, head - 1, head, head + 1, head + total - 4, head + total, head + total + 1]);
-    offsets.extend([0x8000_0000, 0xFFFF_FFFC, 0xFFFF_FFFF]);
-    let mut records = Vec::new();
-    for offset in distinct(offsets) {
-        let mut lens = vec![0, 1, 4, total - 1, total, total + 1, 0xFFFF_FFFF];
-        // A source that ends with the content, or would in 32 bits; one that ends at 2^32; and each with one byte more.
-        let (left, full) = (total.wrapping_sub(offset), 0u32.wrapping_sub(offset));
-        lens.extend([left, left.wrapping_add(1), full, full.wrapping_add(1)]);
-        records.extend(distinct(lens).into_iter().map(|len| Record { offset, len, ..base }));
-    }
-    records
-}
-
-/// Payloads whose first record stands at each edge of its source and its target, and some whose second one does.
+/// Payloads whose first record stands at each edge of its source and its target.
 fn single_records(cases: &mut Vec<Case>) {
-    let rest = 30;
+    let rest = 30u32;
     for kind in [CODE, DATA, BSS, PARAMS, ENTRY, 0, 7, CODE + 1, CODE.swap_bytes(), ENTRY.swap_bytes(), 0x2053_5343] {
-        let base = Record { kind, compression: 1, offset: 0, load: 0x8000, len: 4, memlen: 4 };
+        let total = 56 + rest;
+        let content = 40u32;
+        let end = content + total;
+        let base = Record { kind, compression: 1, offset: content, load: 0x8000, len: 4, memlen: 4 };
         let mut records = vec![base];
         for compression in EDGES_32 {
             records.push(Record { compression, ..base });
         }
-        records.extend(sources(base, 40, 56 + rest));
+        for offset in [
+            0,
+            1,
+            24,
+            content - 1,
+            content,
+            content + 1,
+            end - 5,
+            end - 4,
+            end - 3,
+            end - 1,
+            end,
+            end + 1,
+            0xFFFF_FFFC,
+            0xFFFF_FFFF,
+        ] {
+            for len in [0, 1, 4, total - 1, total, total + 1, 0xFFFF_FFFF, 0xFFFF_FFFFu32.wrapping_sub(offset).wrapping_add(1)] {
+                records.push(Record { offset, len, ..base });
+            }
+        }
         for compression in [0, 1, 2] {
             for len in [0, 1, 5, 6] {
                 for memlen in [0, 1, 4, 5, 6, 7, 0xFFFF_FFFF] {
@@ -539,18 +386,11 @@ fn single_records(cases: &mut Vec<Case>) {
             cases.push(ask_payload(&payload_bytes(&[record, entry(record.load)], rest as usize), "record"));
         }
     }
-    let first = Record { kind: PARAMS, compression: 0, offset: 1, load: 0, len: 2, memlen: 0 };
-    for (stand, kind) in STANDS.into_iter().flat_map(|stand| [CODE, DATA, BSS, PARAMS, ENTRY].map(|kind| (stand, kind))) {
-        let base = Record { kind, compression: 2, offset: 0, load: 0x8000, len: 4, memlen: 4 };
-        for record in sources(base, 24 + stand.0 as u32, 84 + rest) {
-            cases.push(ask(b'y', stand, &payload_bytes(&[first, record, entry(1)], rest as usize), "second record"));
-        }
-    }
 }
 
 /// Two targets around each other, with the third record a further one.
 fn two_targets(cases: &mut Vec<Case>) {
-    let offset = 28 * 4;
+    let content = 40 + 28 * 4;
     for (first, second) in [(CODE, BSS), (BSS, DATA), (DATA, CODE), (BSS, BSS), (CODE, PARAMS), (PARAMS, DATA)] {
         for start in [0x1000u64, 0, u64::MAX - 0x0F] {
             for size in [0u32, 1, 16] {
@@ -567,9 +407,9 @@ fn two_targets(cases: &mut Vec<Case>) {
                         start.wrapping_add(size as u64 + 1),
                     ];
                     for (index, load) in edges.into_iter().enumerate() {
-                        let one = Record { kind: first, compression: 1, offset, load: start, len: 1, memlen: size };
-                        let two = Record { kind: second, compression: 2, offset, load, len: 2, memlen: other };
-                        let between = Record { kind: PARAMS, compression: 0, offset, load: start, len: 3, memlen: 9 };
+                        let one = Record { kind: first, compression: 1, offset: content, load: start, len: 1, memlen: size };
+                        let two = Record { kind: second, compression: 2, offset: content, load, len: 2, memlen: other };
+                        let between = Record { kind: PARAMS, compression: 0, offset: content, load: start, len: 3, memlen: 9 };
                         let mut records = vec![one, two, entry(start)];
                         if index % 2 == 0 {
                             records.insert(1, between);
@@ -588,14 +428,13 @@ fn record_counts(rng: &mut Rng, cases: &mut Vec<Case>) {
         for with_entry in [false, true] {
             for wrong in [None, Some(count.saturating_sub(1)), Some(15), Some(16)] {
                 for (less, rest) in [(0, 0), (1, 0), (27, 0), (0, 1), (0, 27), (0, 28), (0, 60)] {
-                    let total = (28 * count + rest).saturating_sub(less);
                     let mut records: Vec<Record> = (0..count as u64)
                         .map(|index| {
                             let kind = *rng.pick(&[CODE, DATA, BSS, PARAMS]);
                             Record {
                                 kind,
                                 compression: rng.below(3) as u32,
-                                offset: 0,
+                                offset: 40,
                                 load: 0x1000 * index,
                                 len: 3,
                                 memlen: 0x1000,
@@ -609,7 +448,7 @@ fn record_counts(rng: &mut Rng, cases: &mut Vec<Case>) {
                         match rng.below(4) {
                             0 => records[index].kind = 1,
                             1 => records[index] = Record { kind: CODE, compression: 3, ..records[index] },
-                            2 => records[index] = Record { kind: PARAMS, offset: total as u32, len: 1, ..records[index] },
+                            2 => records[index] = Record { kind: PARAMS, offset: 39, ..records[index] },
                             _ => records[index] = Record { kind: BSS, load: 0, memlen: 5, ..records[index] },
                         }
                     }
@@ -617,19 +456,18 @@ fn record_counts(rng: &mut Rng, cases: &mut Vec<Case>) {
                         records[count - 1] = entry(0x77);
                     }
                     let mut content = payload_bytes(&records, rest);
-                    content.truncate(total);
+                    content.truncate(content.len().saturating_sub(less));
                     cases.push(ask_payload(&content, "record count"));
                 }
             }
         }
     }
     // An earlier record's later refusal comes before a later record's earlier one.
-    let code = Record { kind: CODE, compression: 0, offset: 0, load: 0x1000, len: 4, memlen: 4 };
+    let code = Record { kind: CODE, compression: 0, offset: 40, load: 0x1000, len: 4, memlen: 4 };
     let faults = [
         Record { kind: 9, ..code },
         Record { compression: 3, ..code },
-        // It ends one past four records and 4 bytes.
-        Record { offset: 113, ..code },
+        Record { offset: 39, ..code },
         Record { memlen: 3, ..code },
         Record { load: u64::MAX - 2, ..code },
         Record { load: 0x0FFF, ..code },
@@ -652,9 +490,7 @@ fn random_payload(rng: &mut Rng) -> Vec<u8> {
     for _ in 0..count {
         let kind = *rng.pick(&[CODE, DATA, BSS, PARAMS]);
         let len = rng.below(total + 1);
-        let left = total - len;
-        let offset = rng.below(left + 1);
-        let offset = *rng.pick(&[offset, offset, 0, left]);
+        let offset = 40 + rng.below(total - len + 1);
         let compression = rng.below(3) as u32;
         let memlen = if compression == 0 { len + rng.below(9) } else { rng.below(200) };
         records.push(Record { kind, compression, offset: offset as u32, load: at, len: len as u32, memlen: memlen as u32 });
@@ -684,19 +520,10 @@ fn random_payload(rng: &mut Rng) -> Vec<u8> {
     bytes
 }
 
-/// Any stand, half of them the tight one.
-fn random_stand(rng: &mut Rng) -> Stand {
-    if rng.one_in(2) {
-        TIGHT
-    } else {
-        *rng.pick(&STANDS)
-    }
-}
-
 /// Stages and payloads with no sum, the right one and each wrong one; alone, or with another of the same name and type after it.
 fn checksums(rng: &mut Rng, cases: &mut Vec<Case>) {
     let stage = StageFields { compression: 0, entry: 0x1000, load: 0x1000, len: 40, memlen: 64, rest: 40 }.bytes();
-    let high = Record { kind: CODE, compression: 1, offset: 56, load: 0xFFFF_FFFF_FFFF, len: 300, memlen: 0xFFFF };
+    let high = Record { kind: CODE, compression: 1, offset: 40, load: 0xFFFF_FFFF_FFFF, len: 300, memlen: 0xFFFF };
     let payload = payload_bytes(&[high, entry(0xFFFF_FFFF)], 300);
     for (op, kind, content) in [(b's', STAGE, stage), (b'y', PAYLOAD, payload)] {
         let raw = Raw::new(b"boot", kind, &content);
@@ -766,10 +593,10 @@ fn generated(seed: u64, count: usize) -> Vec<Batch> {
                 let memlen = len.wrapping_add(*rng.pick(&[0, 1, 50, 0xFFFF_FFFF]));
                 let load = *rng.pick(&[last_load(memlen), 0, 1 << 40, last_load(memlen).wrapping_add(1)]);
                 let stage = StageFields { compression: rng.below(4) as u32, entry: rng.next(), load, len, memlen, rest };
-                cases.push(ask(b's', random_stand(&mut rng), &stage.bytes(), "random stage"));
+                cases.push(ask_stage(&stage.bytes(), "random stage"));
             }
             _ => {
-                let mut case = ask(b'y', random_stand(&mut rng), &random_payload(&mut rng), "random payload");
+                let mut case = ask_payload(&random_payload(&mut rng), "random payload");
                 if rng.one_in(10) {
                     let mut image = case.image.to_vec();
                     let at = PLACE + rng.below(image.len() - PLACE);

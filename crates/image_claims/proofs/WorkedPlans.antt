@@ -12,7 +12,7 @@ use Rattle.walk_lookup.specs.Lookup.{bears, only_or_refused}
 use Rattle.region.specs.Region.{region_bytes}
 use Rattle.region.specs.Refusals.{length_fits}
 use Rattle.master_header.specs.Master.{header_at, address_fits, bootblock_fits, align_fits, offset_fits, master_tests, refusal_number, master}
-use Rattle.load_segment.specs.LoadSegment.{len_fits, target_fits, load_tests, ends_before, disjoint_targets}
+use Rattle.load_segment.specs.LoadSegment.{source_fits, len_fits, target_fits, load_tests, ends_before, disjoint_targets}
 use Rattle.load_stage.specs.Stage.{stage_tests, stage_answer, stage_of, stage_in}
 use Rattle.load_payload.specs.Payload.{code_type, entry_type, segment_at, bss_tests, params_tests, type_tests, record_tests, disjoint_from_all, record_list_tests}
 use Rattle.load_payload.specs.Payload.{segments_from, payload_tests, unused_segment, payload_plan, refused_payload, payload_answer, payload_of, payload_in}
@@ -50,7 +50,8 @@ worked_plans :
     × ((image_payload (image 0xDC) (0x73 ∷ [])).number ≡ 18)
 unfolding judge_definitions ones ones_in le le_bytes part_of any filter place_count_below places magic_at magic_inside unless guarded_pick or_else first step next_place
     follow steps
-    listing_from bears only_or_refused region_bytes length_fits header_at address_fits bootblock_fits align_fits offset_fits master_tests refusal_number master len_fits
+    listing_from bears only_or_refused region_bytes length_fits header_at address_fits bootblock_fits align_fits offset_fits master_tests refusal_number master source_fits
+    len_fits
     target_fits load_tests stage_tests stage_answer stage_of stage_in segment_at bss_tests params_tests type_tests record_tests ends_before disjoint_targets disjoint_from_all
     record_list_tests segments_from payload_tests padded payload_plan refused_payload payload_answer payload_of payload_in
 worked_plans = (refl, refl, refl, refl, refl, refl, refl, refl)

@@ -21,7 +21,7 @@ use Rattle.strict_rules.specs.Strict.{lists_place, is_untaken, untaken_places, v
 use Rattle.strict_rules.specs.Slots.{first_start}
 use Rattle.edit_rules.specs.Edit.{field_length, header_bytes, field_bytes, span_stating, sum_for, span_bytes, contains_magic, runs, lowest_fitting, slot_of, slot_filled}
 use Rattle.edit_rules.specs.Edit.{add_after_check, replace_after_check, carried_out, add, replace}
-use Rattle.load_segment.specs.LoadSegment.{len_fits, target_fits, load_tests, ends_before, disjoint_targets}
+use Rattle.load_segment.specs.LoadSegment.{source_fits, len_fits, target_fits, load_tests, ends_before, disjoint_targets}
 use Rattle.load_stage.specs.Stage.{stage_tests, stage_answer, stage_of, stage_in}
 use Rattle.load_payload.specs.Payload.{segment_at, bss_tests, params_tests, type_tests, record_tests, disjoint_from_all, record_list_tests, segments_from, payload_tests}
 use Rattle.load_payload.specs.Payload.{payload_plan, refused_payload, payload_answer, payload_of, payload_in}
@@ -44,7 +44,7 @@ unfolding log magic_from splice lists_place is_untaken untaken_places no_two ver
 editing = 0
 
 unfoldable planning : ℕ
-unfolding boot len_fits target_fits load_tests stage_tests stage_answer stage_of stage_in segment_at bss_tests params_tests type_tests record_tests ends_before
+unfolding boot source_fits len_fits target_fits load_tests stage_tests stage_answer stage_of stage_in segment_at bss_tests params_tests type_tests record_tests ends_before
     disjoint_targets disjoint_from_all record_list_tests segments_from payload_tests padded payload_plan refused_payload payload_answer payload_of payload_in
 planning = 0
 

@@ -72,11 +72,10 @@ boot = 98 ∷ 111 ∷ 111 ∷ 116 ∷ []
 abbrev pub image_with_boot : ℕ → List ℕ → List ℕ
 image_with_boot kind content = image (span_bytes boot kind content) 1024 64 0 0xFFFFFFDC
 
--- A payload: CODE of 4 bytes at 0x1000 for 0x100, BSS of 16 bytes at b, ENTRY at 0x1000. The 4 bytes stand after the records,
--- at 84 of the content (request 2), which is 124 of the image.
+-- A payload: CODE of 4 bytes at 0x1000 for 0x100, BSS of 16 bytes at b, ENTRY at 0x1000. The 4 bytes stand after the records, at 124.
 abbrev pub payload_bytes : ℕ → List ℕ
 payload_bytes b =
-    le_bytes 4 code_type ++ (be_bytes 4 0 ++ (be_bytes 4 84 ++ (be_bytes 8 0x1000 ++ (be_bytes 4 4 ++ (be_bytes 4 0x100
+    le_bytes 4 code_type ++ (be_bytes 4 0 ++ (be_bytes 4 124 ++ (be_bytes 8 0x1000 ++ (be_bytes 4 4 ++ (be_bytes 4 0x100
     ++ (le_bytes 4 bss_type ++ (be_bytes 4 0 ++ (be_bytes 4 0 ++ (be_bytes 8 b ++ (be_bytes 4 0 ++ (be_bytes 4 16
     ++ (le_bytes 4 entry_type ++ (be_bytes 4 0 ++ (be_bytes 4 0 ++ (be_bytes 8 0x1000 ++ (be_bytes 4 0 ++ (be_bytes 4 0 ++ replicate 4 0)))))))))))))))))
 

@@ -1,41 +1,41 @@
 -- What the tests of an accepted payload say of its segments.
 use Prim.Native.Nat.{ℕ, zero, suc, ◌+◌, ◌*◌, ◌-◌, ◌^◌, ◌≤◌, ◌<◌}
 use native.Mathlib.Omega.{arith}
-use mathlib.Core.Path.{◌≡◌, refl, sym, ap, subst, ◌∙◌}
-use mathlib.Core.Logic.{◌⊎◌, inl, inr, ◌↔◌}
+use mathlib.Core.Path.{◌≡◌, refl, ap, subst, ◌∙◌}
+use mathlib.Core.Logic.{◌⊎◌, inl, inr}
 use mathlib.Core.Bool.{Bool, true, false, cond, false≢true, ◌||◌}
 use mathlib.Core.List.{List, [], ◌∷◌, ◌++◌}
 use lib.ListN.{length, get_or, length-append, get_or-append}
 use lib.Seq.{get_or-append_seam}
 use lib.Dec.{leb, eqb}
-use borrow.Author.Tests.{leb-true, le-leb, eqb-true}
+use borrow.Author.Tests.{leb-true, eqb-true}
 use Rattle.region.specs.Refusals.{Test, test, first_failed}
 use Rattle.load_segment.specs.LoadSegment.{load_tests, disjoint_targets, ends_before}
 use Rattle.load_payload.specs.Payload.{type_at, code_type, data_type, bss_type, params_type, entry_type, loaded_segment, bss_segment, params_segment, entry_segment}
-use Rattle.load_payload.specs.Payload.{unknown_segment, compression_at, len_at, source_at, source_end}
+use Rattle.load_payload.specs.Payload.{unknown_segment}
 use Rattle.load_payload.specs.Payload.{segment_at, bss_tests, params_tests, type_tests, record_tests, disjoint_from_all, is_entry, record_list_tests, segments_from}
 use Rattle.load_payload.specs.Payload.{unused_segment}
 use Rattle.load_payload.specs.Accepted.{Loaded, HasSource, HasTarget, Target}
 use Rattle.cbfs_types.specs.declared.Segment.{Segment}
 use Rattle.region.proofs.Orders.{all_passed, first_both}
-use Rattle.load_segment.proofs.Fitting.{source_decides, load_source, len_in, target_in}
-use Rattle.load_payload.proofs.RecordTypes.{load_type_tests, bss_type_tests, params_type_tests, loaded_is, params_is}
+use Rattle.load_segment.proofs.Fitting.{source_in, len_in, target_in}
+use Rattle.load_payload.proofs.RecordTypes.{load_type_tests, bss_type_tests, params_type_tests}
 use Rattle.load_payload.proofs.RecordList.{record_numbered}
 
 -- A segment that no test of its type refuses.
-module _ (l e : ℕ) (x : Segment) (z : first_failed (type_tests l e x) ≡ 0) where
-  loading : Loaded x → (k : ℕ) → (get_or (load_tests l e x) k (test 1 true)).passed ≡ true
+module _ (at l : ℕ) (x : Segment) (e : first_failed (type_tests at l x) ≡ 0) where
+  loading : Loaded x → (k : ℕ) → (get_or (load_tests at l x) k (test 1 true)).passed ≡ true
   unfolding load_tests
-  loading h = all_passed (load_tests l e x) refl (rw (load_type_tests l e x h) at z)
+  loading h = all_passed (load_tests at l x) refl (rw (load_type_tests at l x h) at e)
 
-  pub source_fit : HasSource x → e ≤ l
+  pub source_fit : HasSource x → (at ≤ x.source) × (x.source + x.len ≤ at + l)
   unfolding load_tests params_tests
-  source_fit (inl h) = leb-true e l (all_passed (params_tests l e x) refl (rw (params_type_tests l e x h) at z) 1)
-  source_fit (inr h) = leb-true e l (loading h 1)
+  source_fit (inl h) = source_in at l x.source x.len (all_passed (params_tests at l x) refl (rw (params_type_tests at l x h) at e) 1)
+  source_fit (inr h) = source_in at l x.source x.len (loading h 1)
 
   pub target_fit : HasTarget x → x.load + x.memlen ≤ 2 ^ 64
   unfolding load_tests bss_tests
-  target_fit (inl h) = target_in x.load x.memlen (all_passed (bss_tests x) refl (rw (bss_type_tests l e x h) at z) 0)
+  target_fit (inl h) = target_in x.load x.memlen (all_passed (bss_tests x) refl (rw (bss_type_tests at l x h) at e) 0)
   target_fit (inr h) = target_in x.load x.memlen (loading h 3)
 
   pub memory_fit : Loaded x → x.compression ≡ 0 → x.len ≤ x.memlen
@@ -44,7 +44,7 @@ module _ (l e : ℕ) (x : Segment) (z : first_failed (type_tests l e x) ≡ 0) w
 
   pub compression_fit : HasSource x → x.compression ≤ 2
   unfolding load_tests params_tests
-  compression_fit (inl h) = leb-true x.compression 2 (all_passed (params_tests l e x) refl (rw (params_type_tests l e x h) at z) 0)
+  compression_fit (inl h) = leb-true x.compression 2 (all_passed (params_tests at l x) refl (rw (params_type_tests at l x h) at e) 0)
   compression_fit (inr h) = leb-true x.compression 2 (loading h 0)
 
   -- Its type is one of the five.
@@ -52,20 +52,20 @@ module _ (l e : ℕ) (x : Segment) (z : first_failed (type_tests l e x) ≡ 0) w
   unfolding type_tests
   known =
       go (eqb x.kind code_type) refl (eqb x.kind data_type) refl (eqb x.kind bss_type) refl (eqb x.kind params_type) refl
-      (eqb x.kind entry_type) refl z
+      (eqb x.kind entry_type) refl e
     where
       go : (a : Bool) → eqb x.kind code_type ≡ a → (b : Bool) → eqb x.kind data_type ≡ b → (c : Bool) → eqb x.kind bss_type ≡ c → (d : Bool)
           → eqb x.kind params_type ≡ d
           → (f : Bool) → eqb x.kind entry_type ≡ f
-          → first_failed (cond a (load_tests l e x)
-          (cond b (load_tests l e x) (cond c (bss_tests x) (cond d (params_tests l e x) (cond f [] (test 20 false ∷ [])))))) ≡ 0
+          → first_failed (cond a (load_tests at l x)
+          (cond b (load_tests at l x) (cond c (bss_tests x) (cond d (params_tests at l x) (cond f [] (test 20 false ∷ [])))))) ≡ 0
           → HasSource x ⊎ ((x.kind ≡ bss_type) ⊎ (x.kind ≡ entry_type))
-      go true q b r c t d u f v w = inl (inr (inr (eqb-true _ _ q)))
-      go false q true r c t d u f v w = inl (inr (inl (eqb-true _ _ r)))
-      go false q false r true t d u f v w = inr (inl (eqb-true _ _ t))
-      go false q false r false t true u f v w = inl (inl (eqb-true _ _ u))
-      go false q false r false t false u true v w = inr (inr (eqb-true _ _ v))
-      go false q false r false t false u false v w = absurd (omega arith)
+      go true q b r c t d u f v z = inl (inr (inr (eqb-true _ _ q)))
+      go false q true r c t d u f v z = inl (inr (inl (eqb-true _ _ r)))
+      go false q false r true t d u f v z = inr (inl (eqb-true _ _ t))
+      go false q false r false t true u f v z = inl (inl (eqb-true _ _ u))
+      go false q false r false t false u true v z = inr (inr (eqb-true _ _ v))
+      go false q false r false t false u false v z = absurd (omega arith)
 
 -- The record's type is the segment's; a type with no target reports none, and one with no source reports none.
 
@@ -103,72 +103,48 @@ module _ (s : List ℕ) (o p : ℕ) where
   no_source = by_type_lem (λ (x : Segment). (HasSource x → ⊥) → (x.compression ≡ 0) × (x.source ≡ 0) × (x.len ≡ 0))
       (λ e h. absurd (h (inr e))) (λ e h. (refl, refl, refl)) (λ e h. absurd (h (inl e))) (λ e h. (refl, refl, refl)) (λ h. (refl, refl, refl))
 
-  load_type : Loaded (segment_at s o p) → (type_at s p ≡ data_type) ⊎ (type_at s p ≡ code_type)
-  load_type (inl h) = inl (sym kind_is ∙ h)
-  load_type (inr h) = inr (sym kind_is ∙ h)
-
-  -- What a type with a source reports of it.
-  pub with_source : HasSource (segment_at s o p) → ((segment_at s o p).source ≡ source_at s o p) × ((segment_at s o p).len ≡ len_at s p)
-  with_source (inl h) = rw (params_is s o p (sym kind_is ∙ h)) (refl, refl)
-  with_source (inr h) = rw (loaded_is s o p (load_type h)) (refl, refl)
-
-  -- Its tests give 23, where 22 is passed, exactly if its end passes the content's length.
-  pub type_source : HasSource (segment_at s o p) → compression_at s p ≤ 2
-      → (first_failed (type_tests (length s) (source_end s p) (segment_at s o p)) ≡ 23) ↔ (length s < source_end s p)
-  unfolding params_tests
-  type_source (inl h) c =
-      rw (params_type_tests (length s) (source_end s p) (segment_at s o p) h, params_is s o p (sym kind_is ∙ h), le-leb (compression_at s p) 2 c)
-      (source_decides (length s) (source_end s p) [] (λ z. omega arith))
-  type_source (inr h) c =
-      rw (load_type_tests (length s) (source_end s p) (segment_at s o p) h, loaded_is s o p (load_type h))
-      (load_source (length s) (source_end s p) (loaded_segment s o p) c)
-
 -- The records from p on, none of them refused, after the segments xs: their segments ys, the last an ENTRY.
 
--- No test of its type refuses the record at p.
-abbrev pub TypeFits : List ℕ → ℕ → ℕ → Type 0
-TypeFits s o p = first_failed (type_tests (length s) (source_end s p) (segment_at s o p)) ≡ 0
-
-pub record Passed (s : List ℕ) (o p : ℕ) (xs : List Segment) : Type 0 where
+pub record Passed (s : List ℕ) (at o p : ℕ) (xs : List Segment) : Type 0 where
   pub long : p + 28 ≤ length s
-  pub fits : TypeFits s o p
+  pub fits : first_failed (type_tests at (length s) (segment_at s o p)) ≡ 0
   pub clears : disjoint_from_all (segment_at s o p) xs ≡ true
 
-pub data Run (s : List ℕ) (o : ℕ) : ℕ → List Segment → List Segment → Type 0 where
-  last : {p : ℕ} {xs : List Segment} → Passed s o p xs → is_entry (segment_at s o p) ≡ true → Run s o p xs (segment_at s o p ∷ [])
-  more : {p : ℕ} {xs ys : List Segment} → Passed s o p xs → is_entry (segment_at s o p) ≡ false → Run s o (p + 28) (xs ++ (segment_at s o p ∷ [])) ys
-      → Run s o p xs (segment_at s o p ∷ ys)
+pub data Run (s : List ℕ) (at o : ℕ) : ℕ → List Segment → List Segment → Type 0 where
+  last : {p : ℕ} {xs : List Segment} → Passed s at o p xs → is_entry (segment_at s o p) ≡ true → Run s at o p xs (segment_at s o p ∷ [])
+  more : {p : ℕ} {xs ys : List Segment} → Passed s at o p xs → is_entry (segment_at s o p) ≡ false → Run s at o (p + 28) (xs ++ (segment_at s o p ∷ [])) ys
+      → Run s at o p xs (segment_at s o p ∷ ys)
 
-pub run : (s : List ℕ) (o k p : ℕ) (xs : List Segment) → first_failed (record_list_tests s o k p xs) ≡ 0 → Run s o p xs (segments_from s o k p)
+pub run : (s : List ℕ) (at o k p : ℕ) (xs : List Segment) → first_failed (record_list_tests s at o k p xs) ≡ 0 → Run s at o p xs (segments_from s o k p)
 unfolding record_list_tests segments_from record_tests
-run s o zero p xs e = absurd (omega arith)
-run s o (suc k) p xs e = go (is_entry x) refl parts.1 (run s o k (p + 28) (xs ++ (x ∷ [])))
+run s at o zero p xs e = absurd (omega arith)
+run s at o (suc k) p xs e = go (is_entry x) refl parts.1 (run s at o k (p + 28) (xs ++ (x ∷ [])))
   where
     x : Segment
     x = segment_at s o p
 
     rest : List Test
-    rest = cond (is_entry x) [] (record_list_tests s o k (p + 28) (xs ++ (x ∷ [])))
+    rest = cond (is_entry x) [] (record_list_tests s at o k (p + 28) (xs ++ (x ∷ [])))
 
-    both : (first_failed (record_tests s o p) ≡ 0) × (first_failed (test 26 (disjoint_from_all x xs) ∷ rest) ≡ 0)
-    both = first_both (record_tests s o p) (test 26 (disjoint_from_all x xs) ∷ rest) (record_numbered s o p) e
+    both : (first_failed (record_tests s at o p) ≡ 0) × (first_failed (test 26 (disjoint_from_all x xs) ∷ rest) ≡ 0)
+    both = first_both (record_tests s at o p) (test 26 (disjoint_from_all x xs) ∷ rest) (record_numbered s at o p) e
 
     parts : (first_failed (test 26 (disjoint_from_all x xs) ∷ []) ≡ 0) × (first_failed rest ≡ 0)
     parts = first_both (test 26 (disjoint_from_all x xs) ∷ []) rest refl both.1
 
-    fitting : (first_failed (test 19 (leb (p + 28) (length s)) ∷ []) ≡ 0) × (first_failed (type_tests (length s) (source_end s p) x) ≡ 0)
-    fitting = first_both (test 19 (leb (p + 28) (length s)) ∷ []) (type_tests (length s) (source_end s p) x) refl both.0
+    fitting : (first_failed (test 19 (leb (p + 28) (length s)) ∷ []) ≡ 0) × (first_failed (type_tests at (length s) x) ≡ 0)
+    fitting = first_both (test 19 (leb (p + 28) (length s)) ∷ []) (type_tests at (length s) x) refl both.0
 
-    here : Passed s o p xs
+    here : Passed s at o p xs
     here = record {
       long = leb-true _ _ (all_passed (test 19 (leb (p + 28) (length s)) ∷ []) refl fitting.0 0);
       fits = fitting.1;
       clears = all_passed (test 26 (disjoint_from_all x xs) ∷ []) refl parts.0 0;
     }
 
-    go : (b : Bool) → is_entry x ≡ b → first_failed (cond b [] (record_list_tests s o k (p + 28) (xs ++ (x ∷ [])))) ≡ 0
-        → (first_failed (record_list_tests s o k (p + 28) (xs ++ (x ∷ []))) ≡ 0 → Run s o (p + 28) (xs ++ (x ∷ [])) (segments_from s o k (p + 28)))
-        → Run s o p xs (x ∷ cond b [] (segments_from s o k (p + 28)))
+    go : (b : Bool) → is_entry x ≡ b → first_failed (cond b [] (record_list_tests s at o k (p + 28) (xs ++ (x ∷ [])))) ≡ 0
+        → (first_failed (record_list_tests s at o k (p + 28) (xs ++ (x ∷ []))) ≡ 0 → Run s at o (p + 28) (xs ++ (x ∷ [])) (segments_from s o k (p + 28)))
+        → Run s at o p xs (x ∷ cond b [] (segments_from s o k (p + 28)))
     go true q f ih = last here q
     go false q f ih = more here q (ih f)
 
@@ -182,10 +158,10 @@ from_most s o (suc k) p = go (is_entry (segment_at s o p)) (from_most s o k (p +
     go false h = omega arith
 
 -- The segment at an index: that of its record, which fits the content.
-pub record Nth (s : List ℕ) (o p : ℕ) (ys : List Segment) (n : ℕ) : Type 0 where
+pub record Nth (s : List ℕ) (at o p : ℕ) (ys : List Segment) (n : ℕ) : Type 0 where
   pub is : get_or ys n unused_segment ≡ segment_at s o (p + 28 * n)
   pub long : p + 28 * n + 28 ≤ length s
-  pub fits : TypeFits s o (p + 28 * n)
+  pub fits : first_failed (type_tests at (length s) (get_or ys n unused_segment)) ≡ 0
 
 -- A segment that is disjoint from others is disjoint from each.
 disjoint_each : (y : Segment) (xs : List Segment) → disjoint_from_all y xs ≡ true → (n : ℕ) → n < length xs → disjoint_targets (get_or xs n unused_segment) y ≡ true
@@ -200,22 +176,21 @@ disjoint_each y (x ∷ xs) e n h = go (disjoint_targets x y) refl e n h (disjoin
     go true q f zero h ih = q
     go true q f (suc n) h ih = ih f n (omega arith)
 
-module _ {s : List ℕ} {o : ℕ} where
-  at_zero : {p : ℕ} {xs : List Segment} (ys : List Segment) → Passed s o p xs → Nth s o p (segment_at s o p ∷ ys) 0
-  at_zero {p} ys a = let e : p ≡ p + 28 * 0 = omega arith in
-      record { is = ap (λ (q : ℕ). segment_at s o q) e; long = omega (arith, a.long); fits = subst (λ (q : ℕ). TypeFits s o q) e a.fits }
+module _ {s : List ℕ} {at o : ℕ} where
+  at_zero : {p : ℕ} {xs : List Segment} (ys : List Segment) → Passed s at o p xs → Nth s at o p (segment_at s o p ∷ ys) 0
+  at_zero {p} ys a = let e : p ≡ p + 28 * 0 = omega arith in record { is = ap (λ (q : ℕ). segment_at s o q) e; long = omega (arith, a.long); fits = a.fits }
 
-  pub nth : {p : ℕ} {xs ys : List Segment} → Run s o p xs ys → (n : ℕ) → n < length ys → Nth s o p ys n
+  pub nth : {p : ℕ} {xs ys : List Segment} → Run s at o p xs ys → (n : ℕ) → n < length ys → Nth s at o p ys n
   nth (last a e) zero h = at_zero [] a
   nth (last a e) (suc n) h = absurd (omega arith)
   nth (more {ys = ys} a e r) zero h = at_zero ys a
   nth {p} (more a e r) (suc n) h =
       let m = nth r n (omega arith) in
       let q : p + 28 + 28 * n ≡ p + 28 * suc n = omega arith in
-      record { is = m.is ∙ ap (λ (y : ℕ). segment_at s o y) q; long = omega (arith, m.long); fits = subst (λ (y : ℕ). TypeFits s o y) q m.fits }
+      record { is = m.is ∙ ap (λ (y : ℕ). segment_at s o y) q; long = omega (arith, m.long); fits = m.fits }
 
   -- How many there are: up to the first ENTRY.
-  pub ending : {p : ℕ} {xs ys : List Segment} → Run s o p xs ys
+  pub ending : {p : ℕ} {xs ys : List Segment} → Run s at o p xs ys
       → (m : ℕ) × (length ys ≡ suc m) × (is_entry (segment_at s o (p + 28 * m)) ≡ true) × ((n : ℕ) → n < m → is_entry (segment_at s o (p + 28 * n)) ≡ false)
   ending {p} (last a e) = let q : p + 28 * 0 ≡ p = omega arith in (0, refl, rw q e, λ n h. absurd (omega arith))
   ending {p} (more a e r) = let (m, l, f, g) = ending r in (suc m, ap suc l, subst (λ (y : ℕ). is_entry (segment_at s o y) ≡ true) (further m) f, go m g)
@@ -229,7 +204,7 @@ module _ {s : List ℕ} {o : ℕ} where
 
   -- Every later segment is disjoint from every earlier one.
 
-  earlier : {p : ℕ} {xs ys : List Segment} → Run s o p xs ys → (n m : ℕ) → n < length xs → m < length ys
+  earlier : {p : ℕ} {xs ys : List Segment} → Run s at o p xs ys → (n m : ℕ) → n < length xs → m < length ys
       → disjoint_targets (get_or xs n unused_segment) (get_or ys m unused_segment) ≡ true
   earlier {xs = xs} (last a e) n zero f h = disjoint_each _ xs a.clears n f
   earlier (last a e) n (suc m) f h = absurd (omega arith)
@@ -239,7 +214,7 @@ module _ {s : List ℕ} {o : ℕ} where
       subst (λ (x : Segment). disjoint_targets x (get_or ys m unused_segment) ≡ true) (get_or-append xs (segment_at s o p ∷ []) unused_segment n f)
       (earlier r n m q (omega arith))
 
-  pub pairwise : {p : ℕ} {xs ys : List Segment} → Run s o p xs ys → (n m : ℕ) → n < m → m < length ys
+  pub pairwise : {p : ℕ} {xs ys : List Segment} → Run s at o p xs ys → (n m : ℕ) → n < m → m < length ys
       → disjoint_targets (get_or ys n unused_segment) (get_or ys m unused_segment) ≡ true
   pairwise (last a e) n m f h = absurd (omega arith)
   pairwise (more a e r) n zero f h = absurd (omega arith)

@@ -15,7 +15,7 @@ use Rattle.cbfs_types.specs.declared.Refusal.{Refusal}
 use Rattle.load_segment.specs.LoadSegment.{load_tests}
 use Rattle.load_payload.specs.Payload.{code_type, data_type, bss_type, params_type, entry_type, segment_at, bss_tests, params_tests, type_tests, record_tests}
 use Rattle.load_payload.specs.Payload.{judged_by, disjoint_from_all, is_entry, segment_limit, record_list_tests, segments_from, unused_segment, payload_plan}
-use Rattle.load_payload.specs.Payload.{source_end, refused_payload}
+use Rattle.load_payload.specs.Payload.{refused_payload}
 use Rattle.load_payload.specs.Payload.{payload_answer, records_plan}
 use Rattle.cbfs_types.specs.declared.Segment.{Segment}
 use Rattle.cbfs_types.specs.declared.PayloadPlan.{PayloadPlan}
@@ -47,22 +47,22 @@ segments_snoc s o i =
     rw (e, segments_last s o i 0, f)
 
 -- No test of a record refuses by 0.
-pub type_numbered : (l e : ℕ) (x : Segment) → numbered (type_tests l e x) ≡ true
+pub type_numbered : (at l : ℕ) (x : Segment) → numbered (type_tests at l x) ≡ true
 unfolding type_tests load_tests bss_tests params_tests
-type_numbered l e x =
-    either (eqb x.kind code_type) (load_tests l e x) _ refl
-    (either (eqb x.kind data_type) (load_tests l e x) _ refl
+type_numbered at l x =
+    either (eqb x.kind code_type) (load_tests at l x) _ refl
+    (either (eqb x.kind data_type) (load_tests at l x) _ refl
     (either (eqb x.kind bss_type) (bss_tests x) _ refl
-    (either (eqb x.kind params_type) (params_tests l e x) _ refl
+    (either (eqb x.kind params_type) (params_tests at l x) _ refl
     (either (eqb x.kind entry_type) [] (test 20 false ∷ []) refl refl))))
   where
     either : (b : Bool) (ts us : List Test) → numbered ts ≡ true → numbered us ≡ true → numbered (cond b ts us) ≡ true
     either true ts us e f = e
     either false ts us e f = f
 
-pub record_numbered : (s : List ℕ) (o p : ℕ) → numbered (record_tests s o p) ≡ true
+pub record_numbered : (s : List ℕ) (at o p : ℕ) → numbered (record_tests s at o p) ≡ true
 unfolding record_tests
-record_numbered s o p = type_numbered (length s) (source_end s p) (segment_at s o p)
+record_numbered s at o p = type_numbered at (length s) (segment_at s o p)
 
 -- What the judge's answer says.
 
@@ -85,15 +85,15 @@ judged-fits n x y e = go (eqb n 0) refl e
 one_more : (i : ℕ) → i < 16 → 16 - i ≡ suc (16 - (i + 1))
 one_more i h = omega arith
 
-records_open : (s : List ℕ) (o i p : ℕ) (xs : List Segment) → i < 16
-    → record_list_tests s o (16 - i) p xs ≡ record_tests s o p ++ (test 26 (disjoint_from_all (segment_at s o p) xs)
-    ∷ cond (is_entry (segment_at s o p)) [] (record_list_tests s o (16 - (i + 1)) (p + 28) (xs ++ (segment_at s o p ∷ []))))
+records_open : (s : List ℕ) (at o i p : ℕ) (xs : List Segment) → i < 16
+    → record_list_tests s at o (16 - i) p xs ≡ record_tests s at o p ++ (test 26 (disjoint_from_all (segment_at s o p) xs)
+    ∷ cond (is_entry (segment_at s o p)) [] (record_list_tests s at o (16 - (i + 1)) (p + 28) (xs ++ (segment_at s o p ∷ []))))
 unfolding record_list_tests
-records_open s o i p xs h = rw (one_more i h)
+records_open s at o i p xs h = rw (one_more i h)
 
-records_over : (s : List ℕ) (o i p : ℕ) (xs : List Segment) → 16 ≤ i → first_failed (record_list_tests s o (16 - i) p xs) ≡ 21
+records_over : (s : List ℕ) (at o i p : ℕ) (xs : List Segment) → 16 ≤ i → first_failed (record_list_tests s at o (16 - i) p xs) ≡ 21
 unfolding record_list_tests
-records_over s o i p xs h = let e : 16 - i ≡ 0 = omega arith in rw e
+records_over s at o i p xs h = let e : 16 - i ≡ 0 = omega arith in rw e
 
 from_open : (s : List ℕ) (o i p : ℕ) → i < 16
     → segments_from s o (16 - i) p ≡ segment_at s o p ∷ cond (is_entry (segment_at s o p)) [] (segments_from s o (16 - (i + 1)) (p + 28))
@@ -101,36 +101,36 @@ unfolding segments_from
 from_open s o i p h = rw (one_more i h)
 
 -- After i records, none of them refused and none an ENTRY.
-pub record Going (s : List ℕ) (o i : ℕ) (all : List Segment) : Type 0 where
+pub record Going (s : List ℕ) (at o i : ℕ) (all : List Segment) : Type 0 where
   pub upto : i ≤ 16
   pub stored : all ≡ padded segment_limit unused_segment (segments_at s o i 0)
-  pub refusal : first_failed (record_list_tests s o 16 0 []) ≡ first_failed (record_list_tests s o (16 - i) (28 * i) (segments_at s o i 0))
+  pub refusal : first_failed (record_list_tests s at o 16 0 []) ≡ first_failed (record_list_tests s at o (16 - i) (28 * i) (segments_at s o i 0))
   pub segments : segments_from s o 16 0 ≡ segments_at s o i 0 ++ segments_from s o (16 - i) (28 * i)
 
-pub starting : (s : List ℕ) (o : ℕ) {u : Segment} → u ≡ unused_segment → Going s o 0 (replicate 16 u)
+pub starting : (s : List ℕ) (at o : ℕ) {u : Segment} → u ≡ unused_segment → Going s at o 0 (replicate 16 u)
 unfolding segments_at
-starting s o e = record { upto = omega arith; stored = padded_none segment_limit unused_segment e; refusal = refl; segments = refl }
+starting s at o e = record { upto = omega arith; stored = padded_none segment_limit unused_segment e; refusal = refl; segments = refl }
 
 -- The plan, by the number of the first test that fails.
 
-module _ (s : List ℕ) (o : ℕ) where
-  pub answered : {n : ℕ} {r : Refusal} {p : PayloadPlan} → first_failed (record_list_tests s o 16 0 []) ≡ n → (n ≡ 0 → ⊥) → r ≡ refusal_by n
-      → p ≡ refused_payload r → p ≡ records_plan s o
+module _ (s : List ℕ) (at o : ℕ) where
+  pub answered : {n : ℕ} {r : Refusal} {p : PayloadPlan} → first_failed (record_list_tests s at o 16 0 []) ≡ n → (n ≡ 0 → ⊥) → r ≡ refusal_by n
+      → p ≡ refused_payload r → p ≡ records_plan s at o
   unfolding records_plan payload_answer
   answered {n} e z f g = g ∙ rw (f, e, ne_eqb n 0 z)
 
-  planned : {xs : List Segment} {p : PayloadPlan} → first_failed (record_list_tests s o 16 0 []) ≡ 0 → segments_from s o 16 0 ≡ xs → p ≡ payload_plan xs
-      → p ≡ records_plan s o
+  planned : {xs : List Segment} {p : PayloadPlan} → first_failed (record_list_tests s at o 16 0 []) ≡ 0 → segments_from s o 16 0 ≡ xs → p ≡ payload_plan xs
+      → p ≡ records_plan s at o
   unfolding records_plan payload_answer
   planned e f g = g ∙ rw (e, f)
 
-pub over : {s : List ℕ} {o i : ℕ} {all : List Segment} {r : Refusal} {p : PayloadPlan} → Going s o i all → 16 ≤ i → r ≡ refusal_by 21
-    → p ≡ refused_payload r → p ≡ records_plan s o
-over {s} {o} {i} g h e f = answered s o (g.refusal ∙ records_over s o i (28 * i) (segments_at s o i 0) h) (λ z. omega arith) e f
+pub over : {s : List ℕ} {at o i : ℕ} {all : List Segment} {r : Refusal} {p : PayloadPlan} → Going s at o i all → 16 ≤ i → r ≡ refusal_by 21
+    → p ≡ refused_payload r → p ≡ records_plan s at o
+over {s} {at} {o} {i} g h e f = answered s at o (g.refusal ∙ records_over s at o i (28 * i) (segments_at s o i 0) h) (λ z. omega arith) e f
 
 -- The next record, of which the judge answered j.
-module _ {s : List ℕ} {o i : ℕ} {all : List Segment} (g : Going s o i all) (h : i < 16) {j : JudgedRecord}
-    (e : j ≡ judged_by (first_failed (record_tests s o (28 * i))) (segment_at s o (28 * i))) where
+module _ {s : List ℕ} {at o i : ℕ} {all : List Segment} (g : Going s at o i all) (h : i < 16) {j : JudgedRecord}
+    (e : j ≡ judged_by (first_failed (record_tests s at o (28 * i))) (segment_at s o (28 * i))) where
   abbrev before : List Segment
   before = segments_at s o i 0
 
@@ -138,33 +138,33 @@ module _ {s : List ℕ} {o i : ℕ} {all : List Segment} (g : Going s o i all) (
   this = segment_at s o (28 * i)
 
   abbrev later : List Test
-  later = cond (is_entry this) [] (record_list_tests s o (16 - (i + 1)) (28 * i + 28) (before ++ (this ∷ [])))
+  later = cond (is_entry this) [] (record_list_tests s at o (16 - (i + 1)) (28 * i + 28) (before ++ (this ∷ [])))
 
-  opened : first_failed (record_list_tests s o 16 0 []) ≡ first_failed (record_tests s o (28 * i) ++ (test 26 (disjoint_from_all this before) ∷ later))
-  opened = g.refusal ∙ ap first_failed (records_open s o i (28 * i) before h)
+  opened : first_failed (record_list_tests s at o 16 0 []) ≡ first_failed (record_tests s at o (28 * i) ++ (test 26 (disjoint_from_all this before) ∷ later))
+  opened = g.refusal ∙ ap first_failed (records_open s at o i (28 * i) before h)
 
-  pub by_record : {n : ℕ} {r : Refusal} {p : PayloadPlan} → j ≡ Refused n → r ≡ refusal_by n → p ≡ refused_payload r → p ≡ records_plan s o
+  pub by_record : {n : ℕ} {r : Refusal} {p : PayloadPlan} → j ≡ Refused n → r ≡ refusal_by n → p ≡ refused_payload r → p ≡ records_plan s at o
   by_record {n} f =
-      let (a, z) = judged_refused (first_failed (record_tests s o (28 * i))) this n (sym e ∙ f) in
-      answered s o (opened ∙ first_here (record_tests s o (28 * i)) (test 26 (disjoint_from_all this before) ∷ later) (λ y. z (sym a ∙ y)) ∙ a) z
+      let (a, z) = judged_refused (first_failed (record_tests s at o (28 * i))) this n (sym e ∙ f) in
+      answered s at o (opened ∙ first_here (record_tests s at o (28 * i)) (test 26 (disjoint_from_all this before) ∷ later) (λ y. z (sym a ∙ y)) ∙ a) z
 
   -- It fits, and b says whether its target is disjoint from the earlier ones.
   module _ {x : Segment} (f : j ≡ Fits x) {b : Bool} (q : b ≡ disjoint_from_all x (take i all)) where
-    fits : (first_failed (record_tests s o (28 * i)) ≡ 0) × (this ≡ x)
-    fits = judged-fits (first_failed (record_tests s o (28 * i))) this x (sym e ∙ f)
+    fits : (first_failed (record_tests s at o (28 * i)) ≡ 0) × (this ≡ x)
+    fits = judged-fits (first_failed (record_tests s at o (28 * i))) this x (sym e ∙ f)
 
     cleared : disjoint_from_all this before ≡ b
     cleared =
         let t : take i all ≡ before = rw g.stored (padded-take segment_limit unused_segment before i (segments_length s o i 0)) in
         rw (fits.1, ← t) (sym q)
 
-    passed : first_failed (record_list_tests s o 16 0 []) ≡ first_failed (test 26 b ∷ later)
+    passed : first_failed (record_list_tests s at o 16 0 []) ≡ first_failed (test 26 b ∷ later)
     passed =
-        opened ∙ first_later (record_tests s o (28 * i)) (test 26 (disjoint_from_all this before) ∷ later) (record_numbered s o (28 * i)) fits.0
+        opened ∙ first_later (record_tests s at o (28 * i)) (test 26 (disjoint_from_all this before) ∷ later) (record_numbered s at o (28 * i)) fits.0
         ∙ ap (λ (t : Bool). first_failed (test 26 t ∷ later)) cleared
 
-    pub overlapped : {r : Refusal} {p : PayloadPlan} → b ≡ false → r ≡ refusal_by 26 → p ≡ refused_payload r → p ≡ records_plan s o
-    overlapped t = answered s o (passed ∙ rw t) (λ z. omega arith)
+    pub overlapped : {r : Refusal} {p : PayloadPlan} → b ≡ false → r ≡ refusal_by 26 → p ≡ refused_payload r → p ≡ records_plan s at o
+    overlapped t = answered s at o (passed ∙ rw t) (λ z. omega arith)
 
     stored : set all i x ≡ padded segment_limit unused_segment (segments_at s o (i + 1) 0)
     stored =
@@ -175,7 +175,7 @@ module _ {s : List ℕ} {o i : ℕ} {all : List Segment} (g : Going s o i all) (
     rest = g.segments ∙ ap (λ (l : List Segment). before ++ l) (from_open s o i (28 * i) h)
 
     module _ (t : b ≡ true) where
-      pub going : (x.kind ≡ entry_type → ⊥) → Going s o (i + 1) (set all i x)
+      pub going : (x.kind ≡ entry_type → ⊥) → Going s at o (i + 1) (set all i x)
       going z = record {
         upto = omega arith;
         stored = stored;
@@ -190,10 +190,10 @@ module _ {s : List ℕ} {o i : ℕ} {all : List Segment} (g : Going s o i all) (
           further = omega arith
 
       pub finished : x.kind ≡ entry_type → {p : PayloadPlan} → p ≡ record { number = 0; place = 0; count = i + 1; segments = set all i x }
-          → p ≡ records_plan s o
+          → p ≡ records_plan s at o
       unfolding payload_plan
       finished z y =
-          planned s o {xs = segments_at s o (i + 1) 0} (passed ∙ rw (t, last)) (rest ∙ rw (last, segments_snoc s o i))
+          planned s at o {xs = segments_at s o (i + 1) 0} (passed ∙ rw (t, last)) (rest ∙ rw (last, segments_snoc s o i))
           (y ∙ rw (stored, segments_length s o (i + 1) 0))
         where
           last : is_entry this ≡ true

@@ -3,14 +3,12 @@ use Prim.Native.Nat.{ℕ, ◌+◌, ◌*◌, ◌≤◌, ◌<◌}
 use native.Mathlib.Nat.{zero-add}
 use native.Mathlib.Omega.{arith}
 use native.Mathlib.Decide.{dec_lt}
-use mathlib.Core.Path.{◌≡◌, refl, sym, ap, subst, ◌∙◌}
+use mathlib.Core.Path.{◌≡◌, refl, sym, ap, ◌∙◌}
 use mathlib.Core.Bool.{true}
 use mathlib.Core.List.{List, [], ◌∷◌}
-use mathlib.Core.Logic.{◌↔◌}
 use lib.ListN.{length, get_or}
 use lib.Dec.{eqb}
-use borrow.Author.Tests.{le-leb, eqb-true, eqb-false}
-use Rattle.bytes_read.specs.Number.{be}
+use borrow.Author.Tests.{eqb-true, eqb-false}
 use Rattle.bytes_read.proofs.Padding.{padded_nth, padded_past}
 use Rattle.region.specs.Refusals.{test, first_failed}
 use Rattle.region.specs.Region.{refusal_by}
@@ -20,18 +18,17 @@ use Rattle.region.proofs.Orders.{all_passed, first_both}
 use Rattle.cbfs_types.specs.declared.Taken.{Taken}
 use Rattle.region_read.specs.RegionRead.{find_in, content_found_in}
 use Rattle.cbfs_types.specs.declared.Found.TheVariants.{At}
-use Rattle.load_segment.specs.LoadSegment.{disjoint_targets}
-use Rattle.load_segment.specs.Accepted.{Source}
+use Rattle.load_segment.specs.LoadSegment.{content_place, disjoint_targets}
 use Rattle.cbfs_types.specs.declared.Segment.{Segment}
-use Rattle.load_segment.proofs.Finding.{Located, located, inside, source_inside}
+use Rattle.load_segment.proofs.Finding.{Located, located, inside}
 use Rattle.load_segment.proofs.Answering.{accepted, refused, found_plan, refusal_zero}
-use Rattle.load_payload.specs.Payload.{type_at, offset_at, len_at, source_end, origin, segment_at, type_tests, segment_limit, record_list_tests, segments_from}
-use Rattle.load_payload.specs.Payload.{record_tests, payload_tests, unused_segment, payload_plan}
+use Rattle.load_payload.specs.Payload.{type_at, origin, segment_at, type_tests, segment_limit, record_list_tests, segments_from, payload_tests, unused_segment}
+use Rattle.load_payload.specs.Payload.{payload_plan}
 use Rattle.load_payload.specs.Payload.{refused_payload, payload_answer, payload_of, payload_in}
-use Rattle.load_payload.specs.Accepted.{segment_of, HasSource, Target, AcceptedPayload}
+use Rattle.load_payload.specs.Accepted.{segment_of, Target, AcceptedPayload}
 use Rattle.cbfs_types.specs.declared.PayloadPlan.{PayloadPlan}
-use Rattle.load_payload.proofs.Accepting.{source_fit, target_fit, memory_fit, compression_fit, known, kind_is, no_target, no_source, with_source}
-use Rattle.load_payload.proofs.Accepting.{type_source, TypeFits, Run, run, from_most, Nth, nth, ending, pairwise, disjoint_in}
+use Rattle.load_payload.proofs.Accepting.{source_fit, target_fit, memory_fit, compression_fit, known, kind_is, no_target, no_source, Run, run, from_most}
+use Rattle.load_payload.proofs.Accepting.{Nth, nth, ending, pairwise, disjoint_in}
 
 -- What a plan's number and its refusals are.
 
@@ -50,16 +47,16 @@ module _ (i s : List ℕ) (t : Taken) (place : Located i s t) (ok : number (payl
   abbrev plan : PayloadPlan
   plan = payload_plan all
 
-  planned : (first_failed (payload_tests t.header.kind s (origin t)) ≡ 0) × (payload_of t s ≡ plan)
+  planned : (first_failed (payload_tests t.header.kind s (content_place t) (origin t)) ≡ 0) × (payload_of t s ≡ plan)
   unfolding payload_of payload_answer payload_plan
-  planned = accepted number refused_payload refused_number (first_failed (payload_tests t.header.kind s (origin t))) plan refl ok
+  planned = accepted number refused_payload refused_number (first_failed (payload_tests t.header.kind s (content_place t) (origin t))) plan refl ok
 
-  parts : (first_failed (test 18 (eqb t.header.kind 0x20) ∷ []) ≡ 0) × (first_failed (record_list_tests s (origin t) 16 0 []) ≡ 0)
+  parts : (first_failed (test 18 (eqb t.header.kind 0x20) ∷ []) ≡ 0) × (first_failed (record_list_tests s (content_place t) (origin t) 16 0 []) ≡ 0)
   unfolding payload_tests
-  parts = first_both (test 18 (eqb t.header.kind 0x20) ∷ []) (record_list_tests s (origin t) 16 0 []) refl planned.0
+  parts = first_both (test 18 (eqb t.header.kind 0x20) ∷ []) (record_list_tests s (content_place t) (origin t) 16 0 []) refl planned.0
 
-  records : Run s (origin t) 0 [] all
-  records = run s (origin t) 16 0 [] parts.1
+  records : Run s (content_place t) (origin t) 0 [] all
+  records = run s (content_place t) (origin t) 16 0 [] parts.1
 
   count_is : plan.count ≡ length all
   unfolding payload_plan
@@ -69,22 +66,14 @@ module _ (i s : List ℕ) (t : Taken) (place : Located i s t) (ok : number (payl
   unfolding payload_plan
   segment_is k h = padded_nth segment_limit unused_segment all k h
 
-  each : (k : ℕ) → k < plan.count → Nth s (origin t) 0 all k
+  each : (k : ℕ) → k < plan.count → Nth s (content_place t) (origin t) 0 all k
   each k h = nth records k (omega (arith, count_is))
+
+  fits : (k : ℕ) → k < plan.count → first_failed (type_tests (content_place t) (length s) (segment_of plan k)) ≡ 0
+  fits k h = rw (segment_is k h) (each k h).fits
 
   in_order : (k : ℕ) → k < plan.count → segment_of plan k ≡ segment_at s (origin t) (28 * k)
   in_order k h = segment_is k h ∙ (each k h).is ∙ ap (λ (p : ℕ). segment_at s (origin t) p) (zero-add (28 * k))
-
-  fits : (k : ℕ) → k < plan.count → first_failed (type_tests (length s) (source_end s (28 * k)) (segment_of plan k)) ≡ 0
-  fits k h = rw (in_order k h) (subst (λ (p : ℕ). TypeFits s (origin t) p) (zero-add (28 * k)) (each k h).fits)
-
-  -- The source of a segment is that of its record.
-  source_is : (k : ℕ) → k < plan.count → HasSource (segment_of plan k)
-      → Source i s t (offset_at s (28 * k)) (segment_of plan k).source (segment_of plan k).len
-  source_is k h y =
-      let (p, n) = with_source s (origin t) (28 * k) (rw (in_order k h) at y) in
-      let e = source_fit (length s) (source_end s (28 * k)) (segment_of plan k) (fits k h) y in
-      rw (in_order k h, p, n) (source_inside i s t (inside i s t place) (offset_at s (28 * k)) (len_at s (28 * k)) e)
 
   typed : (m : ℕ) → type_at s (28 * m) ≡ (segment_at s (origin t) (0 + 28 * m)).kind
   typed m = rw (zero-add (28 * m)) (sym (kind_is s (origin t) (28 * m)))
@@ -115,22 +104,17 @@ module _ (i s : List ℕ) (t : Taken) (place : Located i s t) (ok : number (payl
     ordered = λ k h. (in_order k h, omega (arith, (each k h).long));
     counted = let (n, l, e, f) = ending records in
         (n, count_is ∙ l, omega (arith, count_is, from_most s (origin t) 16 0), typed n ∙ eqb-true _ _ e, λ m h q. eqb-false _ _ (f m h) (sym (typed m) ∙ q));
-    types = λ k h. known (length s) (source_end s (28 * k)) (segment_of plan k) (fits k h);
-    sources = source_is;
-    targets = λ k h. target_fit (length s) (source_end s (28 * k)) (segment_of plan k) (fits k h);
+    types = λ k h. known (content_place t) (length s) (segment_of plan k) (fits k h);
+    sources = λ k h y. let b = source_fit (content_place t) (length s) (segment_of plan k) (fits k h) y in
+        record { from = b.0; to = b.1; within = omega (arith, b, (inside i s t place).within) };
+    targets = λ k h. target_fit (content_place t) (length s) (segment_of plan k) (fits k h);
     disjoint = λ j k f h b. shared b j k f h;
-    memory = λ k h. memory_fit (length s) (source_end s (28 * k)) (segment_of plan k) (fits k h);
-    compressed = λ k h. compression_fit (length s) (source_end s (28 * k)) (segment_of plan k) (fits k h);
+    memory = λ k h. memory_fit (content_place t) (length s) (segment_of plan k) (fits k h);
+    compressed = λ k h. compression_fit (content_place t) (length s) (segment_of plan k) (fits k h);
     sourceless = λ k h. rw (in_order k h) (no_source s (origin t) (28 * k));
     targetless = λ k h. rw (in_order k h) (no_target s (origin t) (28 * k));
     past = unused_past;
   }
-
--- 23, of a record that has a source and that no earlier number refuses: exactly if offset + len passes the content's length.
-pub source_exactly : (s : List ℕ) (o p : ℕ) → p + 28 ≤ length s → HasSource (segment_at s o p) → be 4 s (p + 4) ≤ 2
-    → (first_failed (record_tests s o p) ≡ 23) ↔ (length s < be 4 s (p + 8) + be 4 s (p + 20))
-unfolding record_tests
-source_exactly s o p h y c = rw (le-leb (p + 28) (length s) h) (type_source s o p y c)
 
 module _ (i : List ℕ) (g : Region) (name : List ℕ) where
   abbrev content : List ℕ
@@ -148,5 +132,5 @@ module _ (i : List ℕ) (g : Region) (name : List ℕ) where
   pub payload_refused : (number (payload_in i g name) ≡ 0 → ⊥) → payload_in i g name ≡ refused_payload (refusal_by (number (payload_in i g name)))
   unfolding payload_in payload_of payload_answer payload_plan
   payload_refused = refusal_zero number refused_payload refused_number i g name (λ t. payload_of t content)
-      (λ t. refused number refused_payload refused_number (first_failed (payload_tests t.header.kind content (origin t)))
+      (λ t. refused number refused_payload refused_number (first_failed (payload_tests t.header.kind content (content_place t) (origin t)))
       (payload_plan (segments_from content (origin t) 16 0)) refl)

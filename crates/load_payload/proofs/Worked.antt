@@ -1,4 +1,4 @@
--- Worked values: plans of small payloads, read by the definitions (document 01, "Load plans"; request 2), and its bench cases.
+-- Worked values: plans of small payloads, read by the definitions (document 01, "Load plans"), and its bench cases.
 use Prim.Native.Nat.{ℕ, zero, suc, ◌-◌, ◌^◌}
 use mathlib.Core.Path.{◌≡◌, refl}
 use mathlib.Core.Bool.{Bool, true}
@@ -12,11 +12,11 @@ use Rattle.bytes_read.specs.Lists.{any, filter, padded}
 use Rattle.walk.specs.Walk.{place_count_below, places, magic_at, magic_inside, unless, guarded_pick, or_else, first, step, next_place, follow, steps, listing_from}
 use Rattle.walk_lookup.specs.Lookup.{bears, only_or_refused}
 use Rattle.region.specs.Region.{region_bytes}
-use Rattle.load_segment.specs.LoadSegment.{len_fits, target_fits, load_tests, ends_before, disjoint_targets}
+use Rattle.load_segment.specs.LoadSegment.{source_fits, len_fits, target_fits, load_tests, ends_before, disjoint_targets}
 use Rattle.load_segment.proofs.Bench.{component, image, twice, region}
 use Rattle.load_payload.specs.Payload.{code_type, data_type, bss_type, params_type, entry_type, segment_at, bss_tests, params_tests, type_tests, record_tests}
 use Rattle.load_payload.specs.Payload.{disjoint_from_all, record_list_tests, segments_from, payload_tests, unused_segment, payload_plan, refused_payload}
-use Rattle.load_payload.specs.Payload.{origin, payload_answer}
+use Rattle.load_payload.specs.Payload.{payload_answer}
 use Rattle.load_payload.specs.Payload.{payload_of, payload_in}
 use Rattle.cbfs_types.specs.declared.PayloadPlan.{PayloadPlan}
 use Rattle.component.proofs.Opened.{judge_definitions}
@@ -32,10 +32,10 @@ types = refl
 abbrev pub segment : ℕ → ℕ → ℕ → ℕ → ℕ → ℕ → List ℕ
 segment k c o a n m = le_bytes 4 k ++ (be_bytes 4 c ++ (be_bytes 4 o ++ (be_bytes 8 a ++ (be_bytes 4 n ++ be_bytes 4 m))))
 
--- Records. The sources are empty and at the content's start, unless the case is about them.
+-- Records. The sources are empty and at the content's start, which is byte 40 of the component, unless the case is about them.
 
 abbrev pub code : ℕ → ℕ → List ℕ
-code a m = segment code_type 0 0 a 0 m
+code a m = segment code_type 0 40 a 0 m
 
 abbrev pub bss : ℕ → ℕ → List ℕ
 bss a m = segment bss_type 0 0 a 0 m
@@ -46,7 +46,7 @@ entry = segment entry_type 0 0 0x1000 0 0
 -- n records that are no ENTRY.
 abbrev many : ℕ → List ℕ
 many zero = []
-many (suc n) = segment params_type 0 0 0 0 0 ++ many n
+many (suc n) = segment params_type 0 40 0 0 0 ++ many n
 
 -- Payloads, each with the number that it is refused by, or 0.
 abbrev payloads : List (ℕ × List ℕ)
@@ -63,7 +63,7 @@ payloads =
     ∷ (0, code 0x1000 0x100 ++ (bss 0xFF0 16 ++ entry))
     ∷ (26, code 0x1000 0x100 ++ (bss 0xFF0 17 ++ entry))
     ∷ (0, code 0x1000 0x100 ++ (bss 0x1080 0 ++ entry))
-    ∷ (26, code 0x1000 0x100 ++ (bss 0x1100 16 ++ (segment data_type 0 0 0x110F 0 1 ++ entry)))
+    ∷ (26, code 0x1000 0x100 ++ (bss 0x1100 16 ++ (segment data_type 0 40 0x110F 0 1 ++ entry)))
     -- no record, a record cut short, no ENTRY; what follows the ENTRY is not read
     ∷ (19, [])
     ∷ (19, replicate 27 0)
@@ -71,53 +71,41 @@ payloads =
     ∷ (0, entry ++ replicate 28 0)
     -- an unknown type, and CODE read big-endian
     ∷ (20, replicate 28 0)
-    ∷ (20, segment 0x434F4445 0 0 0x1000 0 0 ++ entry)
+    ∷ (20, segment 0x434F4445 0 40 0x1000 0 0 ++ entry)
     -- compression: CODE and PARAMS by 22; BSS and ENTRY do not use it
     ∷ (22, segment code_type 3 0 0x1000 9 0 ++ entry)
-    ∷ (22, segment params_type 3 0 0 0 0 ++ entry)
+    ∷ (22, segment params_type 3 40 0 0 0 ++ entry)
     ∷ (0, segment bss_type 3 0 0x1000 9 0 ++ segment entry_type 3 0 0 9 9)
+    -- a source from the content's start to its end; one byte before it; one byte past it, even if empty
+    ∷ (0, segment code_type 0 40 0x1000 56 56 ++ entry)
+    ∷ (23, segment code_type 0 39 0x1000 0 0 ++ entry)
+    ∷ (23, segment code_type 0 40 0x1000 57 57 ++ entry)
+    ∷ (0, segment params_type 0 96 0 0 0 ++ entry)
+    ∷ (23, segment params_type 0 97 0 0 0 ++ entry)
     -- more bytes than memory: CODE and DATA uncompressed alone
-    ∷ (24, segment code_type 0 0 0x1000 2 1 ++ entry)
-    ∷ (24, segment data_type 0 0 0x1000 2 1 ++ entry)
-    ∷ (0, segment data_type 1 0 0x1000 2 1 ++ entry)
-    ∷ (0, segment params_type 0 0 0x1000 2 1 ++ entry)
+    ∷ (24, segment code_type 0 40 0x1000 2 1 ++ entry)
+    ∷ (24, segment data_type 0 40 0x1000 2 1 ++ entry)
+    ∷ (0, segment data_type 1 40 0x1000 2 1 ++ entry)
+    ∷ (0, segment params_type 0 40 0x1000 2 1 ++ entry)
     -- the ENTRY as the sixteenth record, and none among sixteen, at the content's end or before it
     ∷ (0, many 15 ++ entry)
     ∷ (21, many 16)
     ∷ (21, many 16 ++ entry)
     -- the order: 20 before 22, 22 before 23, 23 before 24, 24 before 25, 25 before 26
-    ∷ (20, segment 0x434F4445 3 57 0x1000 0 0 ++ entry)
-    ∷ (22, segment code_type 3 57 0x1000 0 0 ++ entry)
-    ∷ (23, segment code_type 0 57 0x1000 2 1 ++ entry)
-    ∷ (24, segment code_type 0 0 (2 ^ 64 - 2) 4 3 ++ entry)
+    ∷ (20, segment 0x434F4445 3 39 0x1000 0 0 ++ entry)
+    ∷ (22, segment code_type 3 39 0x1000 0 0 ++ entry)
+    ∷ (23, segment code_type 0 39 0x1000 2 1 ++ entry)
+    ∷ (24, segment code_type 0 40 (2 ^ 64 - 2) 4 3 ++ entry)
     ∷ (25, code (2 ^ 64 - 16) 16 ++ (bss (2 ^ 64 - 2) 3 ++ entry))
     -- the first record that is refused: 26 of the second before 20 of the third
     ∷ (26, code 0x1000 0x100 ++ (bss 0x1000 1 ++ replicate 28 0))
     ∷ []
 
--- Sources of type k in a content of 56 bytes: offset and len.
-abbrev sources : ℕ → List (ℕ × List ℕ)
-sources k =
-    -- "A source beginning at 0 and ending at the content's length is now the widest allowed"; one byte more
-    (0, segment k 0 0 0 56 56 ++ entry)
-    ∷ (23, segment k 0 0 0 57 57 ++ entry)
-    -- none at all, at the content's end and past it
-    ∷ (0, segment k 0 56 0 0 0 ++ entry)
-    ∷ (23, segment k 0 57 0 0 0 ++ entry)
-    -- the last byte, and the one after it
-    ∷ (0, segment k 0 55 0 1 1 ++ entry)
-    ∷ (23, segment k 0 56 0 1 1 ++ entry)
-    -- offset + len at 2^32 and past it: as numbers of 32 bits they would be 0, 0 and 56
-    ∷ (23, segment k 0 1 0 (2 ^ 32 - 1) (2 ^ 32 - 1) ++ entry)
-    ∷ (23, segment k 0 (2 ^ 32 - 1) 0 1 1 ++ entry)
-    ∷ (23, segment k 0 (2 ^ 32 - 1) 0 57 57 ++ entry)
-    ∷ []
-
 abbrev agrees : ℕ × List ℕ → Bool
 agrees (n, s) = eqb (payload_of (component 0x20) s).number n
 
-worked_payloads : all_true (map agrees (payloads ++ (sources code_type ++ (sources data_type ++ sources params_type)))) ≡ true
-unfolding be le be_bytes le_bytes len_fits target_fits load_tests segment_at bss_tests params_tests type_tests record_tests ends_before disjoint_targets
+worked_payloads : all_true (map agrees payloads) ≡ true
+unfolding be le be_bytes le_bytes source_fits len_fits target_fits load_tests segment_at bss_tests params_tests type_tests record_tests ends_before disjoint_targets
     disjoint_from_all record_list_tests segments_from payload_tests payload_plan refused_payload payload_answer payload_of
 worked_payloads = refl
 
@@ -128,9 +116,9 @@ other_payload = refl
 
 abbrev plain_payload : List ℕ
 plain_payload =
-    segment code_type 1 112 0x1000 4 0x100 ++ (segment params_type 2 110 0x77 3 0x99 ++ (bss 0x1100 16 ++ (segment entry_type 7 8 0x1004 9 9 ++ replicate 8 0)))
+    segment code_type 1 152 0x1000 4 0x100 ++ (segment params_type 2 150 0x77 3 0x99 ++ (bss 0x1100 16 ++ (segment entry_type 7 8 0x1004 9 9 ++ replicate 8 0)))
 
--- What is reported of each type. The component stands at 64, its content at 104.
+-- What is reported of each type.
 read_payload : payload_in (image 0x20 plain_payload) (region 288) (0x70 ∷ []) ≡ record {
   number = 0;
   place = 0;
@@ -143,14 +131,9 @@ read_payload : payload_in (image 0x20 plain_payload) (region 288) (0x70 ∷ []) 
 }
 unfolding judge_definitions le le_bytes part_of any filter place_count_below places magic_at magic_inside unless guarded_pick or_else first step next_place follow steps
     listing_from
-    bears only_or_refused region_bytes len_fits target_fits load_tests segment_at bss_tests params_tests type_tests record_tests ends_before disjoint_targets
+    bears only_or_refused region_bytes source_fits len_fits target_fits load_tests segment_at bss_tests params_tests type_tests record_tests ends_before disjoint_targets
     disjoint_from_all record_list_tests segments_from payload_tests padded payload_plan payload_answer payload_of payload_in
 read_payload = refl
-
--- Offsets are counted from the content, wherever the header at 100 says that it begins.
-origins : map (λ (o : ℕ). origin (record { place = 100; header = record { offset = o; len = 56; kind = 0x20; checksum = 0; namelen = 1 }; next = 0 }))
-    (40 ∷ 56 ∷ 280 ∷ []) ≡ 140 ∷ 156 ∷ 380 ∷ []
-origins = refl
 
 -- A name that no component has, and one that two components have: the lookup's refusal is the plan's, before the type is looked at.
 

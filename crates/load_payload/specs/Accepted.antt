@@ -1,11 +1,10 @@
--- What is known of every payload plan that is not refused, sentence by sentence of document 01, "Load plans", and of request 2.
+-- What is known of every payload plan that is not refused, sentence by sentence of document 01, "Load plans".
 -- i is the image, t the component that the guarded lookup gives, and s its content.
 use Rattle.std.specs.Prelude.{ℕ, suc, ◌+◌, ◌*◌, ◌^◌, ◌≤◌, ◌<◌, ◌≡◌, ◌⊎◌, List, length, get_or}
 use Rattle.cbfs_types.specs.declared.Taken.{Taken}
 use Rattle.load_segment.specs.Accepted.{ContentInside, Source}
 use Rattle.cbfs_types.specs.declared.Segment.{Segment}
-use Rattle.load_payload.specs.Payload.{type_at, offset_at, code_type, data_type, bss_type, params_type, entry_type, origin, segment_at, segment_limit}
-use Rattle.load_payload.specs.Payload.{unused_segment}
+use Rattle.load_payload.specs.Payload.{type_at, code_type, data_type, bss_type, params_type, entry_type, origin, segment_at, segment_limit, unused_segment}
 use Rattle.cbfs_types.specs.declared.PayloadPlan.{PayloadPlan}
 
 -- The k-th segment of a plan, counted from 0.
@@ -38,8 +37,8 @@ pub record AcceptedPayload (i s : List ℕ) (t : Taken) (p : PayloadPlan) : Type
       × ((m : ℕ) → m < n → type_at s (28 * m) ≡ entry_type → ⊥)
   -- "There are five segment types."
   pub types : (k : ℕ) → k < p.count → HasSource (segment_of p k) ⊎ (((segment_of p k).kind ≡ bss_type) ⊎ ((segment_of p k).kind ≡ entry_type))
-  -- "The source bytes must lie in the component's content", and its offset is counted from the content's start (request 2).
-  pub sources : (k : ℕ) → k < p.count → HasSource (segment_of p k) → Source i s t (offset_at s (28 * k)) (segment_of p k).source (segment_of p k).len
+  -- "The source bytes must lie in the component's content."
+  pub sources : (k : ℕ) → k < p.count → HasSource (segment_of p k) → Source i s t (segment_of p k).source (segment_of p k).len
   -- No target passes 2^64.
   pub targets : (k : ℕ) → k < p.count → HasTarget (segment_of p k) → (segment_of p k).load + (segment_of p k).memlen ≤ 2 ^ 64
   -- "Targets of CODE, DATA and BSS don't overlap": no two segments share a byte of a target.

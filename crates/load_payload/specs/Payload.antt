@@ -1,5 +1,5 @@
--- Payload plans (document 01, "Load plans"; request 2): a component of type 0x20. Its content s is a list of records, 28 bytes each, up to the first ENTRY.
--- Offsets are counted from the place o of the image.
+-- Payload plans (document 01, "Load plans"): a component of type 0x20. Its content s is a list of records, 28 bytes each, up to the first ENTRY.
+-- The content begins at the place `at` of the image; offsets are counted from the place o.
 use Rattle.std.specs.Prelude.{ℕ, zero, suc, ◌+◌, List, [], ◌∷◌, ◌++◌, Bool, true, false, cond, length, leb, eqb}
 use Rattle.bytes_read.specs.Number.{be, le}
 use Rattle.bytes_read.specs.Lists.{padded}
@@ -15,9 +15,9 @@ use Rattle.cbfs_types.specs.declared.PayloadPlan.{PayloadPlan}
 use Rattle.load_payload.specs.declared.JudgedRecord.{JudgedRecord}
 use Rattle.load_payload.specs.declared.JudgedRecord.TheVariants.{Fits, Refused}
 
--- Where segment offsets are counted from, in the image: the first record, which is the start of the content (request 2).
+-- Where segment offsets are counted from, in the image: the component's header.
 abbrev pub origin : Taken → ℕ
-origin t = content_place t
+origin t = t.place
 
 -- A record, 28 bytes from p on: type, compression, offset, load_addr, len, mem_len. The type alone is little-endian.
 
@@ -27,8 +27,8 @@ type_at s p = le 4 s p
 abbrev pub compression_at : List ℕ → ℕ → ℕ
 compression_at s p = be 4 s (p + 4)
 
-abbrev pub offset_at : List ℕ → ℕ → ℕ
-offset_at s p = be 4 s (p + 8)
+abbrev pub source_at : List ℕ → ℕ → ℕ → ℕ
+source_at s o p = o + be 4 s (p + 8)
 
 abbrev pub load_at : List ℕ → ℕ → ℕ
 load_at s p = be 8 s (p + 12)
@@ -38,14 +38,6 @@ len_at s p = be 4 s (p + 20)
 
 abbrev pub memlen_at : List ℕ → ℕ → ℕ
 memlen_at s p = be 4 s (p + 24)
-
--- Its source: the place in the image, and the end, counted from the content's start.
-
-abbrev pub source_at : List ℕ → ℕ → ℕ → ℕ
-source_at s o p = o + offset_at s p
-
-abbrev pub source_end : List ℕ → ℕ → ℕ
-source_end s p = offset_at s p + len_at s p
 
 -- The five types, distinguished by their number: as bytes CODE, DATA, "BSS ", PARA and ENTR.
 
@@ -94,20 +86,20 @@ unknown_segment s p = record { kind = type_at s p; compression = 0; source = 0; 
 unfoldable pub segment_at : List ℕ → ℕ → ℕ → Segment
 segment_at s o p = by_type (type_at s p) (loaded_segment s o p) (bss_segment s p) (params_segment s o p) (entry_segment s p) (unknown_segment s p)
 
--- The tests that each type asks for, in the order of their refusals. A source ends at byte e of a content of l bytes.
+-- The tests that each type asks for, in the order of their refusals. The content is the l bytes from `at` on.
 
 unfoldable pub bss_tests : Segment → List Test
 bss_tests x = test 25 (target_fits x.load x.memlen) ∷ []
 
 unfoldable pub params_tests : ℕ → ℕ → Segment → List Test
-params_tests l e x = test 22 (compression_fits x.compression) ∷ test 23 (source_fits l e) ∷ []
+params_tests at l x = test 22 (compression_fits x.compression) ∷ test 23 (source_fits at l x.source x.len) ∷ []
 
 unfoldable pub type_tests : ℕ → ℕ → Segment → List Test
-type_tests l e x = by_type x.kind (load_tests l e x) (bss_tests x) (params_tests l e x) [] (test 20 false ∷ [])
+type_tests at l x = by_type x.kind (load_tests at l x) (bss_tests x) (params_tests at l x) [] (test 20 false ∷ [])
 
 -- The tests of the record at p: 19, 20, and those of its type.
-unfoldable pub record_tests : List ℕ → ℕ → ℕ → List Test
-record_tests s o p = test 19 (leb (p + 28) (length s)) ∷ type_tests (length s) (source_end s p) (segment_at s o p)
+unfoldable pub record_tests : List ℕ → ℕ → ℕ → ℕ → List Test
+record_tests s at o p = test 19 (leb (p + 28) (length s)) ∷ type_tests at (length s) (segment_at s o p)
 
 -- What the judge of a record answers, by the number n of the first test that fails.
 abbrev pub judged_by : ℕ → Segment → JudgedRecord
@@ -127,12 +119,12 @@ abbrev pub segment_limit : ℕ
 segment_limit = 16
 
 -- The tests record by record, from p on: k more records may come, after those of the segments xs. One more is refused by 21, before its 19.
-unfoldable pub record_list_tests : List ℕ → ℕ → ℕ → ℕ → List Segment → List Test
-record_list_tests s o zero p xs = test 21 false ∷ []
-record_list_tests s o (suc k) p xs =
-    record_tests s o p
+unfoldable pub record_list_tests : List ℕ → ℕ → ℕ → ℕ → ℕ → List Segment → List Test
+record_list_tests s at o zero p xs = test 21 false ∷ []
+record_list_tests s at o (suc k) p xs =
+    record_tests s at o p
     ++ (test 26 (disjoint_from_all (segment_at s o p) xs)
-    ∷ cond (is_entry (segment_at s o p)) [] (record_list_tests s o k (p + 28) (xs ++ (segment_at s o p ∷ []))))
+    ∷ cond (is_entry (segment_at s o p)) [] (record_list_tests s at o k (p + 28) (xs ++ (segment_at s o p ∷ []))))
 
 -- The segments from p on, up to the first ENTRY, k at most.
 unfoldable pub segments_from : List ℕ → ℕ → ℕ → ℕ → List Segment
@@ -140,8 +132,8 @@ segments_from s o zero p = []
 segments_from s o (suc k) p = segment_at s o p ∷ cond (is_entry (segment_at s o p)) [] (segments_from s o k (p + 28))
 
 -- The tests of a component of type k: 18, then record by record 19 to 26 with 21 before 19.
-unfoldable pub payload_tests : ℕ → List ℕ → ℕ → List Test
-payload_tests k s o = test 18 (eqb k 0x20) ∷ record_list_tests s o segment_limit 0 []
+unfoldable pub payload_tests : ℕ → List ℕ → ℕ → ℕ → List Test
+payload_tests k s at o = test 18 (eqb k 0x20) ∷ record_list_tests s at o segment_limit 0 []
 
 abbrev pub unused_segment : Segment
 unused_segment = record { kind = 0; compression = 0; source = 0; load = 0; len = 0; memlen = 0 }
@@ -160,12 +152,12 @@ unfoldable pub payload_answer : ℕ → List Segment → PayloadPlan
 payload_answer n xs = cond (eqb n 0) (payload_plan xs) (refused_payload (refusal_by n))
 
 -- The plan of the records in s.
-unfoldable pub records_plan : List ℕ → ℕ → PayloadPlan
-records_plan s o = payload_answer (first_failed (record_list_tests s o segment_limit 0 [])) (segments_from s o segment_limit 0)
+unfoldable pub records_plan : List ℕ → ℕ → ℕ → PayloadPlan
+records_plan s at o = payload_answer (first_failed (record_list_tests s at o segment_limit 0 [])) (segments_from s o segment_limit 0)
 
 -- The plan of a component t, whose content is s.
 unfoldable pub payload_of : Taken → List ℕ → PayloadPlan
-payload_of t s = payload_answer (first_failed (payload_tests t.header.kind s (origin t))) (segments_from s (origin t) segment_limit 0)
+payload_of t s = payload_answer (first_failed (payload_tests t.header.kind s (content_place t) (origin t))) (segments_from s (origin t) segment_limit 0)
 
 -- The payload plan of a name: 10 and 11 by the guarded lookup, then 18, then the records.
 unfoldable pub payload_in : List ℕ → Region → List ℕ → PayloadPlan

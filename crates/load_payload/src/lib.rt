@@ -4,7 +4,7 @@ ghost use Rattle.std.specs.Prelude.{◌≡◌, ◌+◌, ◌≤◌, ◌<◌, ◌^
 ghost use Rattle.bytes_read.specs.Bytes.{part_of};
 ghost use Rattle.region.specs.Refusals.{first_failed};
 ghost use Rattle.load_segment.specs.LoadSegment.{content_place};
-ghost use Rattle.load_payload.specs.Payload.{source_end, loaded_segment, bss_segment, params_segment, entry_segment, segment_at, bss_tests};
+ghost use Rattle.load_payload.specs.Payload.{origin as origin_of, loaded_segment, bss_segment, params_segment, entry_segment, segment_at, bss_tests};
 ghost use Rattle.load_payload.specs.Payload.{params_tests, record_tests};
 ghost use Rattle.load_payload.specs.Payload.{judged_by, disjoint_from_all, unused_segment, refused_payload, records_plan, payload_of};
 ghost use Rattle.load_payload.specs.Payload.{payload_in};
@@ -20,6 +20,13 @@ use cbfs_types::{
 enum JudgedRecord {
     Fits(Segment),
     Refused(u32),
+}
+
+// Where segment offsets are counted from.
+fn origin(t: Taken) -> usize
+    ensures { result ≡ origin_of t }
+{
+    t.place
 }
 
 // Test 26 of a segment after the first n of `all`.
@@ -48,25 +55,17 @@ fn bss_refusal(x: Segment) -> u32
     0
 }
 
-// Tests 22 and 23 of PARAMS, whose source ends at byte `end` of a content of len bytes.
-fn params_refusal(len: usize, end: usize, x: Segment) -> u32
-    ensures { result ≡ first_failed (params_tests len end x) }
+// Tests 22 and 23 of PARAMS.
+fn params_refusal(at: usize, len: usize, x: Segment) -> u32
+    ensures { result ≡ first_failed (params_tests at len x) }
 {
     if COMPRESSION_MAX < x.compression {
         return 22;
     }
-    if len < end {
+    if !load_segment::source_fits(at, len, x.source, x.len) {
         return 23;
     }
     0
-}
-
-// Where the source of the record at p ends, counted from the content's start.
-fn source_end(s: &[u8], p: usize) -> usize
-    requires { p + 28 ≤ length s.now }
-    ensures { result ≡ source_end s.now p }
-{
-    bytes_read::be32(s, p + 8) as usize + bytes_read::be32(s, p + 20) as usize
 }
 
 // What CODE and DATA use of the record at p.
@@ -140,9 +139,9 @@ fn judged_by(n: u32, x: Segment) -> JudgedRecord
 }
 
 // The record at p: its type chooses which fields are read and checked.
-fn record_at(s: &[u8], origin: usize, p: usize) -> JudgedRecord
+fn record_at(s: &[u8], at: usize, origin: usize, p: usize) -> JudgedRecord
     requires { (origin < 2 ^ 63) × (p < 2 ^ 32) }
-    ensures { result ≡ judged_by (first_failed (record_tests s.now origin p)) (segment_at s.now origin p) }
+    ensures { result ≡ judged_by (first_failed (record_tests s.now at origin p)) (segment_at s.now origin p) }
 {
     if s.len() < p + SEGMENT_LEN {
         return JudgedRecord::Refused(19);
@@ -151,7 +150,7 @@ fn record_at(s: &[u8], origin: usize, p: usize) -> JudgedRecord
     match kind {
         SEGMENT_CODE | SEGMENT_DATA => {
             let x = loaded_segment(s, origin, p);
-            judged_by(load_segment::load_refusal(s.len(), source_end(s, p), x), x)
+            judged_by(load_segment::load_refusal(at, s.len(), x), x)
         }
         SEGMENT_BSS => {
             let x = bss_segment(s, p);
@@ -159,7 +158,7 @@ fn record_at(s: &[u8], origin: usize, p: usize) -> JudgedRecord
         }
         SEGMENT_PARAMS => {
             let x = params_segment(s, origin, p);
-            judged_by(params_refusal(s.len(), source_end(s, p), x), x)
+            judged_by(params_refusal(at, s.len(), x), x)
         }
         SEGMENT_ENTRY => JudgedRecord::Fits(entry_segment(s, p)),
         _ => JudgedRecord::Refused(20),
@@ -192,15 +191,15 @@ pub fn refused_payload(refusal: Refusal) -> PayloadPlan
     }
 }
 
-// The plan of the records in s. Offsets are counted from the place `origin`.
-fn records(s: &[u8], origin: usize) -> PayloadPlan
+// The plan of the records in s.
+fn records(s: &[u8], at: usize, origin: usize) -> PayloadPlan
     requires { origin < 2 ^ 63 }
-    ensures { result ≡ records_plan s.now origin }
+    ensures { result ≡ records_plan s.now at origin }
 {
     let mut all = [unused_segment(); SEGMENTS_MAX];
     let mut i = 0;
     while i < SEGMENTS_MAX {
-        let j = record_at(s, origin, SEGMENT_LEN * i);
+        let j = record_at(s, at, origin, SEGMENT_LEN * i);
         match j {
             JudgedRecord::Refused(n) => return refused_payload(region::refusal_by(n)),
             JudgedRecord::Fits(x) => {
@@ -233,7 +232,7 @@ fn payload_of(image: &[u8], t: Taken) -> PayloadPlan
         return refused_payload(region::refusal_by(18));
     }
     let at = t.place + h.offset;
-    records(bytes_read::part(image, at, h.len), at)
+    records(bytes_read::part(image, at, h.len), at, origin(t))
 }
 
 // The payload plan of a name, or the refusal.

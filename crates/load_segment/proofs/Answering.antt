@@ -22,14 +22,6 @@ module _ {A : Type 0} (number : A → ℕ) (refusal : Refusal → A) (number_is 
     abbrev answer : Bool → A
     answer b = cond b p (refusal (refusal_by n))
 
-    -- The number of the answer is that of the test.
-    pub numbered_by : number (answer (eqb n 0)) ≡ n
-    numbered_by = go (eqb n 0) refl
-      where
-        go : (b : Bool) → eqb n 0 ≡ b → number (answer b) ≡ n
-        go true q = zero ∙ sym (eqb-true n 0 q)
-        go false q = number_is (refusal_by n)
-
     pub accepted : number (answer (eqb n 0)) ≡ 0 → (n ≡ 0) × (answer (eqb n 0) ≡ p)
     accepted h = go (eqb n 0) refl h
       where

@@ -22,7 +22,7 @@ use Rattle.region.proofs.Regions.{bytes_fit, bytes_inside}
 use Rattle.region_read.specs.RegionRead.{taken_in, find_answer_in, find_in, content_found_in, content_found}
 use Rattle.cbfs_types.specs.declared.Found.TheVariants.{At, Refused}
 use Rattle.load_segment.specs.LoadSegment.{content_place}
-use Rattle.load_segment.specs.Accepted.{ContentInside, Source}
+use Rattle.load_segment.specs.Accepted.{ContentInside}
 
 -- A part of the first n bytes is a part of the whole.
 pub part_of-first : (l : List ℕ) (n k m : ℕ) → k + m ≤ n → n ≤ length l → take m (drop k (take n l)) ≡ take m (drop k l)
@@ -39,25 +39,6 @@ inside i s t place = record {
   part = subst (λ (n : ℕ). s ≡ part_of i (content_place t) n) (sym place.length-is) (sym place.content);
   within = omega (arith, place.within, place.length-is);
 }
-
--- The n bytes of the content from byte o on, as a plan reports them.
-pub source_inside : (i s : List ℕ) (t : Taken) → ContentInside i s t → (o n : ℕ) → o + n ≤ length s → Source i s t o (content_place t + o) n
-source_inside i s t inside o n h = record {
-  counted = refl;
-  fits = h;
-  within = omega (arith, inside.within);
-  bytes = sym (part_in i (at + o) n (omega (arith, inside.within)))
-      ∙ sym (ap (λ (x : List ℕ). take n x) (drop-drop o at i))
-      ∙ sym (part_of-first (drop at i) (length s) o n h long)
-      ∙ ap (λ (x : List ℕ). take n (drop o x)) (part_in i at (length s) inside.within ∙ sym inside.part)
-      ∙ part_in s o n h;
-}
-  where
-    at : ℕ
-    at = content_place t
-
-    long : length s ≤ length (drop at i)
-    long = rw length-drop (omega (arith, inside.within))
 
 -- A part of the region's bytes is a part of the image.
 pub in_image : (i : List ℕ) (g : Region) (k m : ℕ) → g.start + length (region_bytes i g) ≡ g.end → g.end ≤ length i → k + m ≤ length (region_bytes i g)

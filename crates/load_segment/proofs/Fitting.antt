@@ -1,39 +1,19 @@
 -- What tests 23 to 25 say, each as a fact.
-use Prim.Native.Nat.{ℕ, ◌+◌, ◌^◌, ◌≤◌, ◌<◌}
-use native.Mathlib.Omega.{arith}
-use mathlib.Core.Path.{◌≡◌, refl}
-use mathlib.Core.Bool.{Bool, true, false, cond}
+use Prim.Native.Nat.{ℕ, ◌+◌, ◌^◌, ◌≤◌}
+use mathlib.Core.Path.{◌≡◌}
+use mathlib.Core.Bool.{Bool, true}
 use mathlib.Core.List.{List, [], ◌∷◌}
-use mathlib.Core.Logic.{◌↔◌}
 use lib.Dec.{leb}
-use borrow.Author.Tests.{leb-true, leb-false, le-leb, lt-leb, eq-eqb}
-use Rattle.region.specs.Refusals.{Test, test, first_failed}
-use Rattle.load_segment.specs.LoadSegment.{source_fits, len_fits, target_fits, load_tests}
-use Rattle.cbfs_types.specs.declared.Segment.{Segment}
+use borrow.Author.Tests.{leb-true, eq-eqb}
+use Rattle.bytes_read.proofs.Passing.{passes}
+use Rattle.load_segment.specs.LoadSegment.{source_fits, len_fits, target_fits}
 
--- 23 is given, if nothing before it is, exactly when the source's end passes the content's length. None of the tests after it gives it.
-pub source_decides : (l e : ℕ) (ts : List Test) → (first_failed ts ≡ 23 → ⊥) → (first_failed (test 23 (source_fits l e) ∷ ts) ≡ 23) ↔ (l < e)
-source_decides l e ts other = (λ z. there (leb e l) refl z, λ h. rw (lt-leb e l h))
+pub source_in : (at l p n : ℕ) → source_fits at l p n ≡ true → (at ≤ p) × (p + n ≤ at + l)
+unfolding source_fits
+source_in at l p n e = (leb-true at p (passes 0 ts e), leb-true (p + n) (at + l) (passes 1 ts e))
   where
-    there : (b : Bool) → leb e l ≡ b → cond b (first_failed ts) 23 ≡ 23 → l < e
-    there true q z = absurd (other z)
-    there false q z = leb-false e l q
-
--- So it is of what is loaded, where 22 is passed.
-pub load_source : (l e : ℕ) (x : Segment) → x.compression ≤ 2 → (first_failed (load_tests l e x) ≡ 23) ↔ (l < e)
-unfolding load_tests
-load_source l e x h =
-    let a = len_fits x.compression x.len x.memlen in
-    let b = target_fits x.load x.memlen in
-    rw (le-leb x.compression 2 h) (source_decides l e (later a b) (other a b))
-  where
-    later : Bool → Bool → List Test
-    later a b = test 24 a ∷ test 25 b ∷ []
-
-    other : (a b : Bool) → first_failed (later a b) ≡ 23 → ⊥
-    other false b z = omega arith
-    other true false z = omega arith
-    other true true z = omega arith
+    ts : List Bool
+    ts = leb at p ∷ leb (p + n) (at + l) ∷ []
 
 pub len_in : (c n m : ℕ) → len_fits c n m ≡ true → c ≡ 0 → n ≤ m
 unfolding len_fits

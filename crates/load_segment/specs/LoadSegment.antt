@@ -1,5 +1,6 @@
--- What stages and payloads share: the component that a plan is of, and tests 22 to 26 (document 01, "Load plans" and "Refusal numbers"; request 2).
+-- What stages and payloads share: the component that a plan is of, and tests 22 to 26 (document 01, "Load plans" and "Refusal numbers").
 use Rattle.std.specs.Prelude.{ℕ, ◌+◌, ◌^◌, List, [], ◌∷◌, Bool, true, cond, ◌||◌, leb, eqb}
+use Rattle.bytes_read.specs.Tests.{all_true}
 use Rattle.region.specs.Refusals.{Test, test}
 use Rattle.cbfs_types.specs.declared.Refusal.{Refusal}
 use Rattle.cbfs_types.specs.declared.Taken.{Taken}
@@ -20,9 +21,9 @@ plan_for (At t) refusal plan = plan t
 abbrev pub compression_fits : ℕ → Bool
 compression_fits c = leb c 2
 
--- 23: the source's end e, counted from the content's start, does not pass the content's length l. An empty source has an end too.
-abbrev pub source_fits : ℕ → ℕ → Bool
-source_fits l e = leb e l
+-- 23: the n bytes from p on lie in the l bytes from `at` on. Where n is 0, p still lies there or at the end.
+unfoldable pub source_fits : ℕ → ℕ → ℕ → ℕ → Bool
+source_fits at l p n = all_true (leb at p ∷ leb (p + n) (at + l) ∷ [])
 
 -- 24: at compression 0, the n bytes of the source are no more than the m bytes in memory.
 unfoldable pub len_fits : ℕ → ℕ → ℕ → Bool
@@ -32,11 +33,11 @@ len_fits c n m = cond (eqb c 0) (leb n m) true
 unfoldable pub target_fits : ℕ → ℕ → Bool
 target_fits a m = leb (a + m) (2 ^ 64)
 
--- The tests of what is loaded, a stage or a segment, in the order of their refusals. Its source ends at byte e of a content of l bytes.
+-- The tests of what is loaded, a stage or a segment, in the order of their refusals. Its source lies in the l bytes from `at` on.
 unfoldable pub load_tests : ℕ → ℕ → Segment → List Test
-load_tests l e x =
+load_tests at l x =
     test 22 (compression_fits x.compression)
-    ∷ test 23 (source_fits l e)
+    ∷ test 23 (source_fits at l x.source x.len)
     ∷ test 24 (len_fits x.compression x.len x.memlen)
     ∷ test 25 (target_fits x.load x.memlen)
     ∷ []

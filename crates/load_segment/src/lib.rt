@@ -2,9 +2,25 @@
 // Every function takes any numbers.
 ghost use Rattle.std.specs.Prelude.{◌≡◌};
 ghost use Rattle.region.specs.Refusals.{first_failed};
-ghost use Rattle.load_segment.specs.LoadSegment.{len_fits, target_fits, load_tests, disjoint_targets};
+ghost use Rattle.load_segment.specs.LoadSegment.{source_fits, len_fits, target_fits, load_tests, disjoint_targets};
 
 use cbfs_types::{COMPRESSION_MAX, Segment};
+
+// Test 23 of the n bytes from the place p on, in a content of len bytes from `at` on.
+pub fn source_fits(at: usize, len: usize, p: usize, n: usize) -> bool
+    ensures { result ≡ source_fits at len p n }
+{
+    if p < at {
+        return false;
+    }
+    if len < p - at {
+        return false;
+    }
+    if len - (p - at) < n {
+        return false;
+    }
+    true
+}
 
 // Test 24.
 fn len_fits(compression: u32, n: usize, memlen: usize) -> bool
@@ -32,14 +48,14 @@ pub fn target_fits(load: u64, memlen: usize) -> bool
     true
 }
 
-// Tests 22 to 25 of what is loaded: the number of the first that it fails, or 0. Its source ends at byte `end` of a content of len bytes.
-pub fn load_refusal(len: usize, end: usize, x: Segment) -> u32
-    ensures { result ≡ first_failed (load_tests len end x) }
+// Tests 22 to 25 of what is loaded: the number of the first that it fails, or 0.
+pub fn load_refusal(at: usize, len: usize, x: Segment) -> u32
+    ensures { result ≡ first_failed (load_tests at len x) }
 {
     if COMPRESSION_MAX < x.compression {
         return 22;
     }
-    if len < end {
+    if !source_fits(at, len, x.source, x.len) {
         return 23;
     }
     if !len_fits(x.compression, x.len, x.memlen) {

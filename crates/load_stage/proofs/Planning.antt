@@ -10,7 +10,7 @@ use Rattle.cbfs_types.specs.declared.Refusal.{Refusal}
 use Rattle.cbfs_types.specs.declared.Taken.{Taken}
 use Rattle.load_segment.specs.LoadSegment.{content_place, load_tests}
 use Rattle.cbfs_types.specs.declared.Segment.{Segment}
-use Rattle.load_stage.specs.Stage.{entry_point, binary_at, binary_end, stage_tests, stage_plan, refused_stage, stage_answer, stage_of}
+use Rattle.load_stage.specs.Stage.{entry_point, binary_at, stage_tests, stage_plan, refused_stage, stage_answer, stage_of}
 use Rattle.cbfs_types.specs.declared.StagePlan.{StagePlan}
 
 -- A stage, by its type k.
@@ -25,12 +25,11 @@ module _ (k : ℕ) (s : List ℕ) (at : ℕ) where
   unfolding stage_tests stage_answer
   no_header h l e f = f ∙ rw (eq-eqb k 0x10 h, lt-leb 28 (length s) l, e)
 
-  -- Its binary x, which ends at byte m, and the number n of the first test that fails.
-  module _ (h : k ≡ 0x10) (l : 28 ≤ length s) {x : Segment} (b : x ≡ binary_at s at) {m : ℕ} (d : m ≡ binary_end s) {n : ℕ}
-      (c : n ≡ first_failed (load_tests (length s) m x)) where
+  -- Its binary x, and the number n of the first test that fails.
+  module _ (h : k ≡ 0x10) (l : 28 ≤ length s) {x : Segment} (b : x ≡ binary_at s at) {n : ℕ} (c : n ≡ first_failed (load_tests at (length s) x)) where
     first : first_failed (stage_tests k s at) ≡ n
     unfolding stage_tests
-    first = rw (eq-eqb k 0x10 h, le-leb 28 (length s) l, ← b, ← d) (sym c)
+    first = rw (eq-eqb k 0x10 h, le-leb 28 (length s) l, ← b) (sym c)
 
     pub no_load : {r : Refusal} {p : StagePlan} → (n ≡ 0 → ⊥) → r ≡ refusal_by n → p ≡ refused_stage r → p ≡ stage_answer (first_failed (stage_tests k s at)) s at
     unfolding stage_answer

@@ -1,12 +1,11 @@
 -- What is known of every stage plan (document 01, "Load plans"): i is an image, g a region of it, and the name any bytes.
-use Prim.Native.Nat.{ℕ, ◌+◌, ◌≤◌, ◌<◌}
+use Prim.Native.Nat.{ℕ}
+use native.Mathlib.Omega.{arith}
 use mathlib.Core.Path.{◌≡◌, refl}
 use mathlib.Core.Bool.{true}
 use mathlib.Core.List.{List}
-use mathlib.Core.Logic.{◌↔◌}
 use lib.ListN.{length, get_or}
-use borrow.Author.Tests.{leb-true, le-leb, eqb-true, eq-eqb}
-use Rattle.bytes_read.specs.Number.{le}
+use borrow.Author.Tests.{leb-true, eqb-true}
 use Rattle.region.specs.Refusals.{test, first_failed}
 use Rattle.region.specs.Region.{refusal_by}
 use Rattle.cbfs_types.specs.declared.Region.{Region}
@@ -16,10 +15,10 @@ use Rattle.region_read.specs.RegionRead.{find_in, content_found_in}
 use Rattle.cbfs_types.specs.declared.Found.TheVariants.{At}
 use Rattle.load_segment.specs.LoadSegment.{content_place, load_tests}
 use Rattle.cbfs_types.specs.declared.Segment.{Segment}
-use Rattle.load_segment.proofs.Fitting.{load_source, len_in, target_in}
-use Rattle.load_segment.proofs.Finding.{Located, located, inside, source_inside}
-use Rattle.load_segment.proofs.Answering.{numbered_by, accepted, refused, found_plan, refusal_zero}
-use Rattle.load_stage.specs.Stage.{entry_point, binary_at, binary_end, stage_tests, stage_plan, refused_stage, stage_answer, stage_of, stage_in}
+use Rattle.load_segment.proofs.Fitting.{source_in, len_in, target_in}
+use Rattle.load_segment.proofs.Finding.{Located, located, inside}
+use Rattle.load_segment.proofs.Answering.{accepted, refused, found_plan, refusal_zero}
+use Rattle.load_stage.specs.Stage.{entry_point, binary_at, stage_tests, stage_plan, refused_stage, stage_answer, stage_of, stage_in}
 use Rattle.load_stage.specs.Accepted.{AcceptedStage}
 use Rattle.cbfs_types.specs.declared.StagePlan.{StagePlan}
 
@@ -41,27 +40,17 @@ module _ (i s : List ℕ) (t : Taken) (place : Located i s t) (ok : number (stag
 
   holds : AcceptedStage i s t (stage_plan (entry_point s) binary)
   unfolding stage_tests load_tests
-  holds = record {
-    kind = eqb-true t.header.kind 0x10 (passed 0);
-    content = inside i s t place;
-    reported = refl;
-    source = source_inside i s t (inside i s t place) 28 binary.len (leb-true (binary_end s) (length s) (passed 3));
-    range = target_in binary.load binary.memlen (passed 5);
-    memory = len_in binary.compression binary.len binary.memlen (passed 4);
-    compressed = leb-true binary.compression 2 (passed 2);
-  }
-
--- 23, of a stage that no earlier number refuses: exactly if the binary's end passes the content's length.
-pub stage_source_exactly : (t : Taken) (s : List ℕ) → t.header.kind ≡ 0x10 → 28 ≤ length s → le 4 s 0 ≤ 2
-    → (number (stage_of t s) ≡ 23) ↔ (length s < 28 + le 4 s 20)
-unfolding stage_of stage_answer stage_tests
-stage_source_exactly t s k l c =
-    rw (
-      numbered_by number refused_stage (λ r. refl) (first_failed (stage_tests t.header.kind s (content_place t))) (stage_plan (entry_point s) (binary_at s (content_place t))) refl,
-      eq-eqb t.header.kind 0x10 k,
-      le-leb 28 (length s) l,
-    )
-    (load_source (length s) (binary_end s) (binary_at s (content_place t)) c)
+  holds =
+      let b = source_in (content_place t) (length s) binary.source binary.len (passed 3) in
+      record {
+        kind = eqb-true t.header.kind 0x10 (passed 0);
+        content = inside i s t place;
+        reported = refl;
+        source = record { from = b.0; to = b.1; within = omega (arith, b, (inside i s t place).within) };
+        range = target_in binary.load binary.memlen (passed 5);
+        memory = len_in binary.compression binary.len binary.memlen (passed 4);
+        compressed = leb-true binary.compression 2 (passed 2);
+      }
 
 module _ (i : List ℕ) (g : Region) (name : List ℕ) where
   abbrev content : List ℕ

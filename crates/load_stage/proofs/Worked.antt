@@ -12,7 +12,7 @@ use Rattle.bytes_read.specs.Lists.{any, filter}
 use Rattle.walk.specs.Walk.{place_count_below, places, magic_at, magic_inside, unless, guarded_pick, or_else, first, step, next_place, follow, steps, listing_from}
 use Rattle.walk_lookup.specs.Lookup.{bears, only_or_refused}
 use Rattle.region.specs.Region.{region_bytes}
-use Rattle.load_segment.specs.LoadSegment.{len_fits, target_fits, load_tests}
+use Rattle.load_segment.specs.LoadSegment.{source_fits, len_fits, target_fits, load_tests}
 use Rattle.load_segment.proofs.Bench.{component, image, twice, region}
 use Rattle.load_stage.specs.Stage.{stage_tests, stage_answer, stage_of, stage_in}
 use Rattle.cbfs_types.specs.declared.StagePlan.{StagePlan}
@@ -34,9 +34,6 @@ stages =
     ∷ (0, header 2 0x1000 0x1000 0 0)
     ∷ (22, header 3 0x1000 0x1000 9 0 ++ replicate 8 0)
     ∷ (23, header 0 0x1000 0x1000 9 0 ++ replicate 8 0)
-    -- 28 + len at 2^32 and past it: as numbers of 32 bits they would be 0 and 27
-    ∷ (23, header 1 0x1000 0x1000 (2 ^ 32 - 28) 0 ++ replicate 8 0)
-    ∷ (23, header 1 0x1000 0x1000 (2 ^ 32 - 1) 0 ++ replicate 8 0)
     ∷ (24, header 0 0x1000 0x1000 8 7 ++ replicate 8 0)
     ∷ (0, header 1 0x1000 0x1000 8 7 ++ replicate 8 0)
     -- the order: 24 before 25
@@ -48,7 +45,7 @@ abbrev agrees : ℕ × List ℕ → Bool
 agrees (n, s) = eqb (stage_of (component 0x10) s).number n
 
 worked_stages : all_true (map agrees stages) ≡ true
-unfolding le le_bytes len_fits target_fits load_tests stage_tests stage_answer stage_of
+unfolding le le_bytes source_fits len_fits target_fits load_tests stage_tests stage_answer stage_of
 worked_stages = refl
 
 -- The type comes first.
@@ -60,7 +57,7 @@ read_stage : stage_in (image 0x10 (header 1 0x77 0x1000 4 0x100 ++ replicate 4 0
     ≡ record { number = 0; place = 0; compression = 1; entry = 0x77; load = 0x1000; source = 132; len = 4; memlen = 0x100 }
 unfolding judge_definitions le le_bytes part_of any filter place_count_below places magic_at magic_inside unless guarded_pick or_else first step next_place follow steps
     listing_from
-    bears only_or_refused region_bytes len_fits target_fits load_tests stage_tests stage_answer stage_of stage_in
+    bears only_or_refused region_bytes source_fits len_fits target_fits load_tests stage_tests stage_answer stage_of stage_in
 read_stage = refl
 
 -- A name that no component has, and one that two components have: the lookup's refusal is the plan's, before the type is looked at.

@@ -13,8 +13,8 @@ pub record AcceptedStage (i s : List ℕ) (t : Taken) (p : StagePlan) : Type 0 w
   pub content : ContentInside i s t
   -- It reports the header's compression, entry, load, len and memlen. "The binary follows."
   pub reported : p ≡ stage_plan (entry_point s) (binary_at s (content_place t))
-  -- "len must fit what remains": the source begins at byte 28 of the content.
-  pub source : Source i s t 28 p.source p.len
+  -- "len must fit what remains."
+  pub source : Source i s t p.source p.len
   -- "The zeroed range is memlen bytes from load": it does not pass 2^64.
   pub range : p.load + p.memlen ≤ 2 ^ 64
   -- Uncompressed bytes are no more than the memory for them.

@@ -20,13 +20,9 @@ entry_point s = le 8 s 4
 abbrev pub binary_at : List ℕ → ℕ → Segment
 binary_at s at = record { kind = 0; compression = le 4 s 0; source = at + 28; load = le 8 s 12; len = le 4 s 20; memlen = le 4 s 24 }
 
--- Where the binary ends, counted from the content's start.
-abbrev pub binary_end : List ℕ → ℕ
-binary_end s = 28 + le 4 s 20
-
 -- The tests in the order of their refusals, of a component of type k: 18, 19, and 22 to 25.
 unfoldable pub stage_tests : ℕ → List ℕ → ℕ → List Test
-stage_tests k s at = test 18 (eqb k 0x10) ∷ test 19 (leb 28 (length s)) ∷ load_tests (length s) (binary_end s) (binary_at s at)
+stage_tests k s at = test 18 (eqb k 0x10) ∷ test 19 (leb 28 (length s)) ∷ load_tests at (length s) (binary_at s at)
 
 -- The plan. The zeroed range is the memlen bytes from load on.
 abbrev pub stage_plan : ℕ → Segment → StagePlan

@@ -4,7 +4,7 @@ ghost use Rattle.std.specs.Prelude.{◌≡◌, ◌+◌, ◌≤◌, ◌<◌, ◌^
 ghost use Rattle.bytes_read.specs.Bytes.{part_of};
 ghost use Rattle.region.specs.Refusals.{first_failed};
 ghost use Rattle.load_segment.specs.LoadSegment.{content_place};
-ghost use Rattle.load_stage.specs.Stage.{binary_at, binary_end, stage_tests, stage_plan, refused_stage, stage_answer, stage_of, stage_in};
+ghost use Rattle.load_stage.specs.Stage.{binary_at, stage_tests, stage_plan, refused_stage, stage_answer, stage_of, stage_in};
 
 use cbfs_types::{
     CBFS_TYPE_LEGACY_STAGE, Found, Refusal, Region, STAGE_HEADER_LEN, Segment, StagePlan, Taken,
@@ -41,13 +41,6 @@ fn binary(s: &[u8], at: usize) -> Segment
     }
 }
 
-// Where the binary of a stage ends, counted from the content's start.
-fn binary_end(s: &[u8]) -> usize
-    ensures { result ≡ binary_end s.now }
-{
-    STAGE_HEADER_LEN + bytes_read::le32(s, 20) as usize
-}
-
 // The plan of a stage that is not refused.
 fn planned(entry: u64, x: Segment) -> StagePlan
     ensures { result ≡ stage_plan entry x }
@@ -76,7 +69,7 @@ fn stage_read(k: u32, s: &[u8], at: usize) -> StagePlan
         return refused_stage(region::refusal_by(19));
     }
     let x = binary(s, at);
-    let n = load_segment::load_refusal(s.len(), binary_end(s), x);
+    let n = load_segment::load_refusal(at, s.len(), x);
     if n != 0 {
         return refused_stage(region::refusal_by(n));
     }

@@ -22,15 +22,18 @@ add_at c = search rules
 part-requires : tie.Need-part-requires
 part-requires c κs = search rules
 
+origin-requires : tie.Need-origin-requires
+origin-requires c κs = search rules
+
 records-requires : tie.Need-records-requires
 records-requires c κs = search rules
 
 returns-2 : tie.Need-returns-2
 returns-2 c =
-    let p = c.before in
+    let p = c.before.before in
     let e = p.before.before.before in
     let a = e.before.before.before.before.args in
-    payload_by a.t _ e.if1.false p.part.ensures.0 refl c.records.ensures
+    payload_by a.t _ e.if1.false p.part.ensures.0 refl c.before.origin.ensures c.records.ensures
 
 pub payload-of-spec : {M : Type 1} → statement M
 payload-of-spec =
@@ -41,5 +44,6 @@ payload-of-spec =
     returns
     add_at
     part-requires
+    origin-requires
     records-requires
     returns-2)

@@ -7,10 +7,10 @@ use Rattle.load_payload.proofs.records.Statement.{statement}
 use Rattle.load_payload.proofs.records.Tie as tie
 
 abbrev invariant-loop : tie.invariant-loop
-invariant-loop s origin all₀ i₀ all i = Going s origin i all
+invariant-loop s at origin all₀ i₀ all i = Going s at origin i all
 
 abbrev decreases-loop : tie.decreases-loop
-decreases-loop s origin all₀ i₀ all i = 16 - i
+decreases-loop s at origin all₀ i₀ all i = 16 - i
 
 unused-segment-requires : tie.Need-unused-segment-requires invariant-loop decreases-loop
 unused-segment-requires c κs = search rules
@@ -18,7 +18,7 @@ unused-segment-requires c κs = search rules
 loop-holds : tie.Need-loop-init invariant-loop decreases-loop
 loop-holds c =
     let a = c.before.before.args in
-    starting a.s.now a.origin c.unused-segment.ensures
+    starting a.s.now a.at a.origin c.unused-segment.ensures
 
 mul-record-at : tie.Need-overflow-mul-record-at invariant-loop decreases-loop
 mul-record-at c = search rules

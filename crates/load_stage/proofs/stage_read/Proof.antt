@@ -34,9 +34,6 @@ returns-2 c =
 binary-requires : tie.Need-binary-requires
 binary-requires c κs = search rules
 
-binary-end-requires : tie.Need-binary-end-requires
-binary-end-requires c κs = search rules
-
 load-refusal-requires : tie.Need-load-refusal-requires
 load-refusal-requires c κs = search rules
 
@@ -49,11 +46,11 @@ refused-stage-requires-3 c κs = search rules
 returns-3 : tie.Need-returns-3
 returns-3 c =
     let t = c.before.before in
-    let d = t.before.before in
-    let e = d.before.before in
+    let b = t.before.before in
+    let e = b.before in
     let a = (start e).args in
-    no_load a.k a.s.now a.at e.before.if1.false e.if2.false d.before.binary.ensures d.binary-end.ensures
-    t.before.load-refusal.ensures t.if3.true c.before.refusal-by3.ensures c.refused-stage3.ensures
+    no_load a.k a.s.now a.at e.before.if1.false e.if2.false b.binary.ensures t.before.load-refusal.ensures t.if3.true
+    c.before.refusal-by3.ensures c.refused-stage3.ensures
 
 le64-requires : tie.Need-le64-requires
 le64-requires c κs = search rules
@@ -64,11 +61,11 @@ planned-requires c κs = search rules
 returns-4 : tie.Need-returns-4
 returns-4 c =
     let t = c.before.before in
-    let d = t.before.before in
-    let e = d.before.before in
+    let b = t.before.before in
+    let e = b.before in
     let a = (start e).args in
-    staged a.k a.s.now a.at e.before.if1.false e.if2.false d.before.binary.ensures d.binary-end.ensures
-    t.before.load-refusal.ensures t.if3.false c.before.le64.ensures.0 c.planned.ensures
+    staged a.k a.s.now a.at e.before.if1.false e.if2.false b.binary.ensures t.before.load-refusal.ensures t.if3.false
+    c.before.le64.ensures.0 c.planned.ensures
 
 pub stage-read-spec : {M : Type 1} → statement M
 stage-read-spec =
@@ -81,7 +78,6 @@ stage-read-spec =
     refused-stage-requires-2
     returns-2
     binary-requires
-    binary-end-requires
     load-refusal-requires
     refusal-by-requires-3
     refused-stage-requires-3
