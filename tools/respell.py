@@ -24,6 +24,9 @@ LEMMAS = {
     "strict_place": "image_claims/proofs/Refusing.antt bench_calls/proofs/Refusing.antt",
 }
 LETTER = r"[\w'\-◌·]"
+# Fields of our records with a dash, which stand behind a dot too.
+FIELDS = """all-tests area-tests all-taken content-at count-read distinct-names done-again header-fits length-is minor-read name-at name-max name-min name-part
+    none-untaken not-refused offset-max offset-min other-bytes other-components passes-to-13 record-read record-zero some-area then-zero without-magic""".split()
 KEPT = re.compile(r"\b(\w+)\.now ≡ \1\.now\b")
 
 
@@ -37,10 +40,10 @@ def main():
         table = dict(line.rstrip("\n").split("\t") for line in f)
     own = pattern(table)
 
-    def turn(text):
+    def turn(text, of_function):
         def one(m):
-            # What Rattle makes of the code is named behind a dot, with dashes of its own.
-            if "-" in m.group(1) and m.start() and text[m.start() - 1] == ".":
+            # What Rattle makes of a function's code is named behind a dot, with dashes of its own.
+            if "-" in m.group(1) and m.start() and text[m.start() - 1] == "." and (of_function or m.group(1) not in FIELDS):
                 return m.group(0)
             return table[m.group(1)]
 
@@ -58,7 +61,7 @@ def main():
             for lemma, places in LEMMAS.items():
                 if name.endswith(".antt") and any(path.endswith("crates/" + p) for p in places.split()):
                     new = re.sub(r"(?<![\w'\-.])" + lemma + r"(?!" + LETTER + r")", lemma + "_lem", new)
-            new = turn(new)
+            new = turn(new, name == "Proof.antt")
             if name.endswith(".rt"):
                 new = KEPT.sub(r"\1.exit.now ≡ \1.entry.now", new)
             if new != old:
@@ -71,7 +74,7 @@ def main():
             path = os.path.join(folder, name)
             with open(path, encoding="utf-8") as f:
                 old = f.read()
-            new = re.sub(r"`[^`\n]+`", lambda m: turn(m.group(0)), old)
+            new = re.sub(r"`[^`\n]+`", lambda m: turn(m.group(0), False), old)
             if new != old:
                 with open(path, "w", encoding="utf-8") as f:
                     f.write(new)

@@ -1,5 +1,7 @@
 // Numbers in bytes, parts of bytes, and bytes compared. What writes bytes stands in the crate `bytes_write`.
 // Every public function takes any bytes and any numbers: a byte past the end reads as 0.
+#![tactic(auto)]
+
 ghost use Rattle.std.specs.Prelude.{◌≡◌, ◌+◌, ◌≤◌, min, length, drop, get_or};
 ghost use Rattle.bytes_read.specs.Number.{be, le, swap_bytes};
 ghost use Rattle.bytes_read.specs.Bytes.{part_of, eq_bytes};

@@ -1,4 +1,6 @@
 // Bytes copied and filled, and numbers written in bytes. Every function takes any bytes and any numbers: a write that does not fit writes nothing.
+#![tactic(auto)]
+
 ghost use Rattle.std.specs.Prelude.{◌≡◌, ◌%◌, [], ◌∷◌, length, replicate};
 ghost use Rattle.bytes_read.specs.Number.{be_bytes};
 ghost use Rattle.bytes_read.specs.Bytes.{fits, written};

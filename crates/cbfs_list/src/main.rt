@@ -1,6 +1,7 @@
 // The listing program: an image of at most 65,536 bytes from standard input, listed by the plain walk (document 01, "Bench image A").
 // The listing is gathered on a page, whose first `used` bytes are in use, and written once.
 // The master header is read once, and the walk asked over its region, so that the program stands on few crates and is soon proved.
+#![tactic(auto)]
 use cbfs_types::{Master, Region, Step, Taken};
 use libc::{STDIN_FILENO, STDOUT_FILENO};
 

@@ -1,5 +1,6 @@
 // The test driver: cases on standard input, an answer to each on standard output. It holds no logic of its own.
 // An operation is one function here, and one line of `answer`. Each writes to a page, and answers how many of its bytes are then in use.
+#![tactic(auto)]
 
 mod input;
 mod output;

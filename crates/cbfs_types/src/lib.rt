@@ -1,5 +1,6 @@
 // The types of all answers, and the numbers of the format under their names. Whoever calls `cbfs` or `fmap` lists this crate beside them, to take
 // answers apart. A place is counted from the image's start, unless a comment says otherwise.
+#![tactic(auto)]
 
 // An image has IMAGE_MIN to IMAGE_MAX bytes.
 pub const IMAGE_MIN: usize = 64;

@@ -218,8 +218,8 @@ well_formed_lem s c f =
     record {
       magic = eq_true _ _ f.magic;
       header_fits = f.long;
-      offset-min = f.least;
-      offset-max = f.most;
+      offset_min = f.least;
+      offset_max = f.most;
       multiple = sixteens (offset s) (omega (arith, f.least)) f.whole;
       span_fits = f.fits;
       name_min = d.least;
@@ -235,8 +235,8 @@ field_words s n w =
     let o : offset s ≤ length s = omega (arith, w.span_fits) in
     let l = field-length s o in
     record {
-      least = w.name-min;
-      most = w.name-max;
+      least = w.name_min;
+      most = w.name_max;
       inside = omega (arith, w.in_field, l);
       letters = λ j h. rw (nth s o j (omega (arith, w.in_field))) (w.letters j h);
       zeros = λ j h k. nth s o j (omega (arith, l)) ∙ w.zeros j h (omega (arith, l));
@@ -274,13 +274,13 @@ judge_words s n w =
     let d = field_words s n w in
     unformed s (component s n) (record {
       magic = rw w.magic (eq_refl magic);
-      long = w.header-fits;
-      least = w.offset-min;
-      most = w.offset-max;
+      long = w.header_fits;
+      least = w.offset_min;
+      most = w.offset_max;
       whole = let (k, e) = w.multiple in whole (offset s) k e;
       fits = w.span_fits;
       named = field_fit (name_field s) n d;
-      summed = sum_fit s (omega (arith, w.offset-min)) w.span_fits w.sum;
+      summed = sum_fit s (omega (arith, w.offset_min)) w.span_fits w.sum;
       read = same_component s n (omega (arith, w.in_field)) (field_before (name_field s) n d);
     })
 

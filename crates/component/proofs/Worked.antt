@@ -14,7 +14,7 @@ use Rattle.bytes_read.specs.Tests.{all_true}
 use Rattle.bytes_read.specs.Printable.{is_printable}
 use Rattle.component.specs.Names.{is_zero, name_fits}
 use Rattle.component.specs.Sums.{span_sum}
-use Rattle.component.specs.Component.{Component, magic, judge, judge_skipping_sum}
+use Rattle.component.specs.Component.{Component, judge, judge_skipping_sum}
 use Rattle.component.specs.Table.{name_byte, sum_of, WellFormedHeader}
 use Rattle.component.proofs.Exactly.{all_at, printable, judge_exactly}
 use Rattle.component.proofs.Opened.{judge_definitions}
@@ -62,8 +62,8 @@ unfolding judge_definitions part sum_of
 words_of_part = record {
   magic = refl;
   header_fits = omega arith;
-  offset-min = omega arith;
-  offset-max = omega arith;
+  offset_min = omega arith;
+  offset_max = omega arith;
   multiple = (1, refl);
   span_fits = omega arith;
   name_min = omega arith;

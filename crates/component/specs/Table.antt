@@ -37,8 +37,8 @@ pub record WellFormedHeader (s : List ℕ) (n : ℕ) : Type 0 where
   pub magic : take 8 s ≡ 0x4C ∷ 0x41 ∷ 0x52 ∷ 0x43 ∷ 0x48 ∷ 0x49 ∷ 0x56 ∷ 0x45 ∷ []
   -- "its 24 bytes fit the region; offset is 40 to 280 and offset - 24 is a multiple of 16;"
   pub header_fits : 24 ≤ length s
-  pub offset-min : 40 ≤ offset s
-  pub offset-max : offset s ≤ 280
+  pub offset_min : 40 ≤ offset s
+  pub offset_max : offset s ≤ 280
   pub multiple : (k : ℕ) × (offset s ≡ 24 + 16 * k)
   -- "place + offset + len does not pass the region's end;"
   pub span_fits : offset s + len s ≤ length s

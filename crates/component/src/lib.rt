@@ -1,5 +1,7 @@
 // A CBFS component: the magic, the header's judge, and names (document 01, "Components and the two walks").
 // A part is what begins at a component's place and goes up to the region's end.
+#![tactic(auto)]
+
 ghost use Rattle.std.specs.Prelude.{◌≡◌, ◌+◌, ◌%◌};
 ghost use Rattle.bytes_read.specs.Tests.{all};
 ghost use Rattle.component.specs.Names.{is_zero, name_fits, name_length};

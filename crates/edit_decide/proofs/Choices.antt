@@ -222,7 +222,7 @@ add_ready r a name kind content x b e =
         let l = length_span name kind content in (
           z.1,
           subst (λ (u : Run). Ready r name content u) z.0 (record {
-            short = (name_fit name ok.passes-to-13.named).short;
+            short = (name_fit name ok.passes_to_13.named).short;
             len-fits = omega (arith, m.1);
             fits = omega (arith, m.2);
             inside = lowest_inside r a (length (span_bytes name kind content)) y low;

@@ -51,7 +51,7 @@ accepted_64 : Accepted region_a 64
 unfolding judge_definitions any filter place_count_below places magic_at plain_pick or_else first next_place step follow steps listing_from bears lists_place is_untaken
     untaken_places
     no_two field_length header_bytes field_bytes span_bytes larchive cal head slot0 slot192 region here list_a
-accepted_64 = record { all-taken = refl; at_most = lit≤ tt; distinct_names_lem = refl }
+accepted_64 = record { all_taken = refl; at_most = lit≤ tt; names_are_distinct = refl }
 
 listed_16 : plain_listing region_a 16 ≡ list_a
 unfolding judge_definitions any filter place_count_below places magic_at plain_pick or_else first next_place step follow steps listing_from bears lists_place is_untaken
@@ -63,7 +63,7 @@ accepted_16 : Accepted region_a 16
 unfolding judge_definitions any filter place_count_below places magic_at plain_pick or_else first next_place step follow steps listing_from bears lists_place is_untaken
     untaken_places
     no_two field_length header_bytes field_bytes span_bytes larchive cal head slot0 slot192 region here list_a
-accepted_16 = record { all-taken = refl; at_most = lit≤ tt; distinct_names_lem = refl }
+accepted_16 = record { all_taken = refl; at_most = lit≤ tt; names_are_distinct = refl }
 
 -- An edit of bench image A's region, from its listing.
 

@@ -244,19 +244,19 @@ module _ (r : List ℕ) (a : ℕ) (pos : 0 < a) (small : length r ≤ 0xFFFFFFFF
         go (add_has_magic o b v) =
             rw v (inr (fit o.named, inr (denied bearer_words o.unused, inr (λ x. omega (arith, o.at_most), inl ((magic_in_lem a pos s).0 b, refl)))))
         go (no_run_fits o n v) = rw v (inr (
-          fit o.passes-to-13.named,
+          fit o.passes_to_13.named,
           inr (
-            denied bearer_words o.passes-to-13.unused,
-            inr (λ x. omega (arith, o.passes-to-13.at_most), inr (denied (magic_in_lem a pos s) o.without-magic, inl (no_run.0 n, refl))),
+            denied bearer_words o.passes_to_13.unused,
+            inr (λ x. omega (arith, o.passes_to_13.at_most), inr (denied (magic_in_lem a pos s) o.without_magic, inl (no_run.0 n, refl))),
           ),
         ))
         go (placed x o n v) = rw v (inr (
-          fit o.passes-to-13.named,
+          fit o.passes_to_13.named,
           inr (
-            denied bearer_words o.passes-to-13.unused,
+            denied bearer_words o.passes_to_13.unused,
             inr (
-              λ x. omega (arith, o.passes-to-13.at_most),
-              inr (denied (magic_in_lem a pos s) o.without-magic, inr (λ h. none-ne-some x (sym (no_run.1 h) ∙ n), refl)),
+              λ x. omega (arith, o.passes_to_13.at_most),
+              inr (denied (magic_in_lem a pos s) o.without_magic, inr (λ h. none-ne-some x (sym (no_run.1 h) ∙ n), refl)),
             ),
           ),
         ))
@@ -283,7 +283,7 @@ module _ (r : List ℕ) (a : ℕ) (pos : 0 < a) (small : length r ≤ 0xFFFFFFFF
 
         only : (z : EntrySlot) → slot_of (length r) name L ≡ some z → (t : Entry) → Bearer L name t → t ≡ z.entry
         only z e t b =
-            let one : filter (bears t.component.name) L ≡ t ∷ [] = lone L acc.distinct-names t b.0 in
+            let one : filter (bears t.component.name) L ≡ t ∷ [] = lone L acc.names_are_distinct t b.0 in
             let k : Memᴰ z.entry (filter (bears t.component.name) L) =
             filter_mem (bears t.component.name) L z.entry (it z e).0 (name_bears t.component.name z.entry ((it z e).1 ∙ sym b.1)) in
             by (mathlib.Core.List.Memᴰ.cases_cons (rw one at k))

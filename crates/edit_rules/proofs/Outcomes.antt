@@ -113,7 +113,7 @@ unfolding only_or_refused first_or_refused
 find r' a acc name t e m = record { guardedly = rw one; plainly = rw (walks_agree r' a acc, one) }
   where
     one : filter (bears name) (guarded_listing r' a) ≡ t ∷ []
-    one = rw (← e) (lone (guarded_listing r' a) (rw (walks_agree r' a acc) at acc.distinct-names) t m)
+    one = rw (← e) (lone (guarded_listing r' a) (rw (walks_agree r' a acc) at acc.names_are_distinct) t m)
 
 other : (r r' : List ℕ) (a : ℕ) → Accepted r a → Accepted r' a → (name : List ℕ)
     → ((n : List ℕ) → (n ≡ name → ⊥) → filter (bears n) (guarded_listing r' a) ≡ filter (bears n) (guarded_listing r a))
@@ -145,10 +145,10 @@ module _ (r : List ℕ) (a : ℕ) (big : 8 ≤ a) (acc : Accepted r a) (name : L
   same = walks_agree r a acc
 
   every_taken : EveryMagicTaken r a
-  every_taken = listed_every_taken r a pos acc.all-taken
+  every_taken = listed_every_taken r a pos acc.all_taken
 
   fit : Fit name
-  fit = name_fit name ok.passes-to-13.named
+  fit = name_fit name ok.passes_to_13.named
 
   mem : Memᴰ x (free_runs r a) × (length s ≤ 0xFFFFFFFF) × (x.from + length s ≤ x.to)
   mem = lowest_some (length s) (free_runs r a) x low
@@ -170,16 +170,16 @@ module _ (r : List ℕ) (a : ℕ) (big : 8 ≤ a) (acc : Accepted r a) (name : L
       go (inr h) = out_after x u.place h
 
   listed : guarded_listing r' a ≡ insert_entry (at x.from name kind put) L
-  listed = new_listing r a big every_taken x free_slot name kind put fit typed len-fits mem.2 ok.without-magic
+  listed = new_listing r a big every_taken x free_slot name kind put fit typed len-fits mem.2 ok.without_magic
       ∙ ap (insert_entry (at x.from name kind put)) (filter-all (λ t. not (in_run x t.place)) L (λ u m. ap not (clear u m)))
 
   accepted : Accepted r' a
-  accepted = accept r' a pos (new_every_taken r a big every_taken x free_slot name kind put fit typed len-fits mem.2 ok.without-magic)
-      (rw listed (omega (arith, length_insert (at x.from name kind put) L, ap length same, ok.passes-to-13.at_most)))
-      (rw listed (distinct_insert (at x.from name kind put) L (rw same at ok.passes-to-13.unused) (rw same at acc.distinct-names)))
+  accepted = accept r' a pos (new_every_taken r a big every_taken x free_slot name kind put fit typed len-fits mem.2 ok.without_magic)
+      (rw listed (omega (arith, length_insert (at x.from name kind put) L, ap length same, ok.passes_to_13.at_most)))
+      (rw listed (distinct_insert (at x.from name kind put) L (rw same at ok.passes_to_13.unused) (rw same at acc.names_are_distinct)))
 
   member : Memᴰ (at x.from name kind put) (guarded_listing r' a)
-  member = new_listed r a big every_taken x free_slot name kind put fit typed len-fits mem.2 ok.without-magic
+  member = new_listed r a big every_taken x free_slot name kind put fit typed len-fits mem.2 ok.without_magic
 
   own : (i : ℕ) → in_run x i ≡ true → in_slots (λ q. eqb q x.from) r' a i ≡ true
   own i e =
@@ -194,7 +194,7 @@ module _ (r : List ℕ) (a : ℕ) (big : 8 ≤ a) (acc : Accepted r a) (name : L
           omega (
             arith,
             ap (λ (w : Entry). w.place)
-                (alone r a big every_taken x free_slot name kind put fit typed len-fits mem.2 ok.without-magic d m
+                (alone r a big every_taken x free_slot name kind put fit typed len-fits mem.2 ok.without_magic d m
                 (in_of x d.place (omega arith) (omega (arith, in_true x i e)))),
           )
 
@@ -249,7 +249,7 @@ module _ (r : List ℕ) (a : ℕ) (big : 8 ≤ a) (acc : Accepted r a) (name : L
   same₂ = walks_agree r a acc
 
   every_taken₂ : EveryMagicTaken r a
-  every_taken₂ = listed_every_taken r a pos₂ acc.all-taken
+  every_taken₂ = listed_every_taken r a pos₂ acc.all_taken
 
   held₂ : SlotOf a (length r) name L₂ z
   held₂ = slot_of_entry r a pos₂ name 0 L₂ (row r a pos₂) z (rw same₂ at is)
@@ -258,7 +258,7 @@ module _ (r : List ℕ) (a : ℕ) (big : 8 ≤ a) (acc : Accepted r a) (name : L
   free_slot₂ = entry_slot_free r a pos₂ name z held₂
 
   distinct₂ : distinct_names L₂ ≡ true
-  distinct₂ = rw same₂ at acc.distinct-names
+  distinct₂ = rw same₂ at acc.names_are_distinct
 
   named₂ : z.entry.component.name ≡ name
   named₂ = bears_name_lem name z.entry held₂.borne

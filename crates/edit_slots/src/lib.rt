@@ -1,6 +1,7 @@
 // Where an edit can write in a region's bytes r: the lowest free run that holds a span, the slot of a name's bearer, and whether a name is
 // used (document 01, "Edits"). All follow from the places of the region's components, which the strict check has stored, and from the headers
 // there: the region is not searched again.
+#![tactic(auto)]
 ghost use Rattle.std.specs.Prelude.{◌≡◌, [], ◌∷◌, get_or};
 ghost use Rattle.bytes_read.specs.Lists.{any};
 ghost use Rattle.edit_rules.specs.Edit.{offset_for, run_fits, lowest_fitting};

@@ -112,7 +112,7 @@ module _ (i : List ℕ) (ok : (fmap i).number ≡ 0) where
       ∙ padded_past area_limit unused_area (areas i) k (omega (arith, count_is, areas_length i (nareas i (map_place i)) (map_place i + 56)))
 
   pub each : (k : ℕ) → k < (fmap i).count → (area_name_fits (drop (nth i k).name i) ≡ true) × (extent_fits (length i) (nth i k) ≡ true)
-  each k h = each_area i (length i) (areas i) (accepted i ok).area-tests k (long k h)
+  each k h = each_area i (length i) (areas i) (accepted i ok).area_tests_lem k (long k h)
 
   pub all_tests_pass : (no_two (same_name i) (areas i) ≡ true) × (no_two cross (areas i) ≡ true)
       × (any (contains_map i (map_place i) (map_end i (map_place i))) (areas i) ≡ true)
@@ -120,4 +120,4 @@ module _ (i : List ℕ) (ok : (fmap i).number ≡ 0) where
   all_tests_pass = (p 0, p 1, p 2)
     where
       p : (k : ℕ) → (get_or (all_areas_tests i (map_place i) (areas i)) k (test 1 true)).passed ≡ true
-      p = all_passed (all_areas_tests i (map_place i) (areas i)) refl (accepted i ok).all-tests
+      p = all_passed (all_areas_tests i (map_place i) (areas i)) refl (accepted i ok).all_tests

@@ -46,7 +46,7 @@ module _ (i : List ℕ) (ok : (fmap i).number ≡ 0) where
   map_inside =
       let h = header_passed i (map_place i) (length i) (accepted i ok).header in
       let e = count_is i ok in
-      (omega (arith, h.some-area), omega (arith, h.no_more), omega (arith, h.within))
+      (omega (arith, h.some_area), omega (arith, h.no_more), omega (arith, h.within))
 
   -- Each area lies in the image, and is not empty.
   pub areas_inside : (k : ℕ) → k < (fmap i).count → AreaInside (length i) (area_of (fmap i) k)

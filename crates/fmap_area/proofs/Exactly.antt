@@ -74,14 +74,14 @@ module _ (i : List ℕ) (q : ℕ) where
   counted n d =
       printed_length n field (omega (arith, d.inside, length-drop (q + 8) i))
       (λ j l. rw (nth j) (is_printable_lem _ (d.letters j l)))
-      (rw (nth n) (not_printable _ d.then-zero))
+      (rw (nth n) (not_printable _ d.then_zero))
 
   pub name_fits_lem : (n : ℕ) → AreaNamed i q n → area_name_fits field ≡ true
   unfolding area_name_fits area_name_tests
   name_fits_lem n d =
       let c = counted n d in
       let l : n < length field = omega (arith, d.inside, length-drop (q + 8) i) in
-      rw (c, le-leb 1 n d.some_byte, le-leb n 31 d.most, eq-eqb _ 0 (within field n l ∙ nth n ∙ d.then-zero))
+      rw (c, le-leb 1 n d.some_byte, le-leb n 31 d.most, eq-eqb _ 0 (within field n l ∙ nth n ∙ d.then_zero))
 
   pub fit_named : area_name_fits field ≡ true → (n : ℕ) × AreaNamed i q n
   unfolding area_name_fits area_name_tests
@@ -240,7 +240,7 @@ fmap_bytes i q e =
     let d = named_four i q (ap length e) in
     let l : 4 < length (drop (q + 8) i) = omega (arith, d.inside, length-drop (q + 8) i) in
     let b : take 4 (drop (q + 8) i) ≡ 0x46 ∷ 0x4D ∷ 0x41 ∷ 0x50 ∷ [] = sym (name_is i q 4 d) ∙ e in
-    let z : get_or (drop (q + 8) i) 4 0 ≡ 0 = nth i q 4 ∙ d.then-zero in
+    let z : get_or (drop (q + 8) i) 4 0 ≡ 0 = nth i q 4 ∙ d.then_zero in
     take-suc (drop (q + 8) i) 4 0 l ∙ rw (b, z)
 
 fmap_name_lem : (i : List ℕ) (q : ℕ) → take 5 (drop (q + 8) i) ≡ 0x46 ∷ 0x4D ∷ 0x41 ∷ 0x50 ∷ 0 ∷ [] → area_name_at i (q + 8) ≡ fmap_name

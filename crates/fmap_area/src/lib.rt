@@ -1,6 +1,7 @@
 // An area of a flash map, by itself and beside another (document 01, "Flash map"): its record, its name, and refusals 33 to 37 as far as they are about one
 // area or two.
 // Ends of areas are compared by differences, so that no numbers overflow.
+#![tactic(auto)]
 ghost use Rattle.std.specs.Prelude.{◌≡◌, length, leb};
 ghost use Rattle.region.specs.Refusals.{first_failed};
 ghost use Rattle.fmap_area.specs.Names.{area_name_of, area_name_at};

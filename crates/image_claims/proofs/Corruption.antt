@@ -39,7 +39,7 @@ module _ (i : List ℕ) (g : Region) (read : master i ≡ Read g) (acc : Accepte
   corrupted : CorruptedRegion inner (region_bytes i g) g.align (region_bytes i' g)
   corrupted = record {
     same_length = bytes_length i g read i' sp.same_length ∙ sym (bytes_length i g read i refl);
-    other_bytes = λ k e. same_bytes i g read i' i sp.same_length refl k (λ h. sp.other-bytes (g.start + k) (slot_inner i g read set i k h ∙ e));
+    other_bytes = λ k e. same_bytes i g read i' i sp.same_length refl k (λ h. sp.other_bytes (g.start + k) (slot_inner i g read set i k h ∙ e));
   }
 
   kept : CorruptionContainedInRegion inner (region_bytes i g) g.align (region_bytes i' g)
@@ -51,7 +51,7 @@ module _ (i : List ℕ) (g : Region) (read : master i ≡ Read g) (acc : Accepte
   outside false c = refl
 
   read' : master i' ≡ Read g
-  read' = same_region i i' g read sp.same_length (λ j h. sp.other-bytes j (rw (le-ltb j g.end h) (outside (leb g.start j) _)))
+  read' = same_region i i' g read sp.same_length (λ j h. sp.other_bytes j (rw (le-ltb j g.end h) (outside (leb g.start j) _)))
 
   -- An entry of either listing stands in the region, and in a slot of the set as its place in the region does.
   slot_from_start : (x : List ℕ) → length x ≡ length i → (t : Entry) → Memᴰ t (guarded_listing (region_bytes x g) g.align)
@@ -62,7 +62,7 @@ module _ (i : List ℕ) (g : Region) (read : master i ≡ Read g) (acc : Accepte
   alone : (t : Entry) → Memᴰ t (guarded_listing (region_bytes i g) g.align)
       → guarded_lookup (region_bytes i g) g.align t.component.name ≡ lookup_gives t
   unfolding only_or_refused
-  alone t m = rw (lone (guarded_listing (region_bytes i g) g.align) (rw (← walks_agree (region_bytes i g) g.align acc) acc.distinct-names) t m)
+  alone t m = rw (lone (guarded_listing (region_bytes i g) g.align) (rw (← walks_agree (region_bytes i g) g.align acc) acc.names_are_distinct) t m)
 
   same_bears : (name : List ℕ) (t : Entry) → bears name (placed g t) ≡ bears name t
   unfolding bears
@@ -99,7 +99,7 @@ module _ (i : List ℕ) (g : Region) (read : master i ≡ Read g) (acc : Accepte
     parts = listed_parts i' g read' true;
     listed = through true g i (λ t. listed_from_image_slots set i g t ≡ false → Memᴰ t (guarded_entries i' g))
         (λ t m f. map_mem (placed g) (guarded_listing (region_bytes i' g) g.align) t (kept.listed t m (sym (slot_from_start i refl t m) ∙ f)));
-    other_components = kept_rest i' sp.same_length ∙ ap (map (placed g)) kept.other-components ∙ sym (kept_rest i refl);
+    other_components = kept_rest i' sp.same_length ∙ ap (map (placed g)) kept.other_components ∙ sym (kept_rest i refl);
     inside = through true g i' (λ t. listed_from_image_slots set i g t ≡ true → (j : ℕ) → t.place ≤ j → j < entry_end t → in_image_slots set i g j ≡ true)
         (λ t m f j lo hi. within t m f (j - g.start) j (omega arith) lo hi);
     before = through true g i (LookupGives true i) (λ t m. gives_there i g read true t (alone t m));

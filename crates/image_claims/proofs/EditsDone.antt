@@ -211,7 +211,7 @@ module _ (i : List ℕ) (g : Region) (read : master i ≡ Read g) where
     -- What remove takes away again.
     undone : (p : ℕ) → Undone r g.align p name (add component_limit r g.align name kind content).bytes
         → ((image_remove i₁ name).answer ≡ Done (g.start + p)) × ((w : Bool) → entries w (image_remove i₁ name).image g ≡ entries w i g)
-    undone p u = (rw (back, ar₁.region, u.done-again), λ w. rw back (same w))
+    undone p u = (rw (back, ar₁.region, u.done_again), λ w. rw back (same w))
       where
         back : master i₁ ≡ Read g
         back = read' i g read (add component_limit r g.align name kind content).bytes i₁ ar₁
@@ -237,7 +237,7 @@ module _ (i : List ℕ) (g : Region) (read : master i ≡ Read g) where
             → Undone r g.align p name (add component_limit r g.align name kind content).bytes
             → AddDone i g name kind content (g.start + p) i₁
         go p acc a u = record {
-          leaves = leaves i g read _ i₁ ar₁ name p i₁ a.accepted a.others (λ k f. sym (a.slot.other-bytes k f));
+          leaves = leaves i g read _ i₁ ar₁ name p i₁ a.accepted a.others (λ k f. sym (a.slot.other_bytes k f));
           there = there i g read _ i₁ ar₁ (new_entry p name kind content) a.finds;
           written = bytes_there i g read _ i₁ ar₁ p (span_bytes name kind content) a.written;
           listed = listed;
@@ -281,7 +281,7 @@ module _ (i : List ℕ) (g : Region) (read : master i ≡ Read g) where
       go : (p : ℕ) → Replaced r g.align name content p (region_bytes (replace_in i g name content).image g)
           → ReplaceDone i g name content (g.start + p) (replace_in i g name content).image
       go p d = record {
-        leaves = leaves i g read _ _ ar₂ name p i d.accepted d.others d.slot.other-bytes;
+        leaves = leaves i g read _ _ ar₂ name p i d.accepted d.others d.slot.other_bytes;
         kind = d.old.component.kind;
         was = (taken_in i g d.old, rw (read, d.was), ap (λ (m : ℕ). g.start + m) d.there, refl);
         there = there i g read _ _ ar₂ (new_entry p name d.old.component.kind content) d.finds;
@@ -304,7 +304,7 @@ module _ (i : List ℕ) (g : Region) (read : master i ≡ Read g) where
 
       go : (p : ℕ) → Removed r g.align name p (region_bytes (remove_in i g name).image g) → RemoveDone i g name (g.start + p) (remove_in i g name).image
       go p d = record {
-        leaves = leaves i g read _ _ ar₃ name p i d.accepted d.others d.slot.other-bytes;
+        leaves = leaves i g read _ _ ar₃ name p i d.accepted d.others d.slot.other_bytes;
         was = (taken_in i g d.old, rw (read, d.was), ap (λ (m : ℕ). g.start + m) d.there);
         gone = gone;
         listed = listed;

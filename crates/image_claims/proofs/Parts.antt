@@ -75,8 +75,8 @@ module _ (i : List ℕ) (g : Region) (read : master i ≡ Read g) (p : ℕ) (lo 
 
   given : (n : ℕ) → WellFormedHeader s n → name_at i p ≡ (component s n).name → content_at i p ≡ (component s n).content → PartsGiven i p n
   given n w e d =
-      let o : be 4 s 20 ≡ be 4 i (p + 20) = number_of 20 (omega (arith, w.header-fits)) in
-      let l : be 4 s 8 ≡ be 4 i (p + 8) = number_of 8 (omega (arith, w.header-fits)) in
+      let o : be 4 s 20 ≡ be 4 i (p + 20) = number_of 20 (omega (arith, w.header_fits)) in
+      let l : be 4 s 8 ≡ be 4 i (p + 8) = number_of 8 (omega (arith, w.header_fits)) in
       let u = window_of 24 n (omega (arith, w.in_field, w.span_fits)) in
       let v = window_of (be 4 s 20) (be 4 s 8) w.span_fits in
       record { name = (u.0, e ∙ u.1); content = rw (← o, ← l) (v.0, d ∙ v.1) }
@@ -101,7 +101,7 @@ module _ (i : List ℕ) (p : ℕ) where
 
   pub parts_given : (n : ℕ) → StandsAt i p n → PartsGiven i p n
   parts_given n a =
-      let e = is_read a.not-refused in
+      let e = is_read a.not_refused in
       let q = fits e (is_step_start (region i) p) refl in
       let f = Numbers.fit-from (region i) p q in
       let j : judge (from_place i (region i) p) ≡ some (component judged n) = rw (from_place_lem e q) (judge_words judged n a.header) in
@@ -147,7 +147,7 @@ found_parts i g read w name t f = let (e, q, u, c) = found_entry i g read w name
         let a = listed_parts i g read w (placed g e) (map_mem (placed g) (region_listing w i g) e m.0) in
         record {
           content = (l.within, c ∙ sym l.content ∙ sym (part_in i (g.start + e.place + e.component.offset) e.component.len l.within));
-          content_at_lem = a.1 ∙ sym c;
+          content_there = a.1 ∙ sym c;
           name_part = (omega (arith, l.within, k.1), sym n ∙ standing_name i g w e m.0);
-          name_at_lem = a.0 ∙ n;
+          name_there = a.0 ∙ n;
         }

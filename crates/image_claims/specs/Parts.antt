@@ -15,9 +15,9 @@ Part i s p n = (p + n ≤ length i) × (s ≡ take n (drop p i))
 -- A lookup found t: its content is the part that the numbers of t give, and the calls at its place give that part too, and the name.
 pub record FoundParts (w : Bool) (i name : List ℕ) (t : Taken) : Type 0 where
   pub content : Part i (image_content w i name) (t.place + t.header.offset) t.header.len
-  pub content_at_lem : content_at i t.place ≡ image_content w i name
+  pub content_there : content_at i t.place ≡ image_content w i name
   pub name_part : Part i name (t.place + 24) t.header.namelen
-  pub name_at_lem : name_at i t.place ≡ name
+  pub name_there : name_at i t.place ≡ name
 
 -- "A header is judged on the part of the image that begins at its place", up to the region's end: a component stands at p, a place of the
 -- image's region, and its name has n bytes.

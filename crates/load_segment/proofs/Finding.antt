@@ -36,8 +36,8 @@ pub record Located (i s : List ℕ) (t : Taken) : Type 0 where
 
 pub inside : (i s : List ℕ) (t : Taken) → Located i s t → ContentInside i s t
 inside i s t place = record {
-  part = subst (λ (n : ℕ). s ≡ part_of i (content_place t) n) (sym place.length-is) (sym place.content);
-  within = omega (arith, place.within, place.length-is);
+  part = subst (λ (n : ℕ). s ≡ part_of i (content_place t) n) (sym place.length_is) (sym place.content);
+  within = omega (arith, place.within, place.length_is);
 }
 
 -- A part of the region's bytes is a part of the image.

@@ -1,4 +1,6 @@
 // A region's bytes, a refusal, and the test that every call begins with.
+#![tactic(auto)]
+
 ghost use Rattle.std.specs.Prelude.{◌≡◌};
 ghost use Rattle.region.specs.Region.{region_bytes, refusal_by};
 ghost use Rattle.region.specs.Refusals.{length_fits};

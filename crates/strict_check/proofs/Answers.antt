@@ -37,15 +37,15 @@ module _ {r : List ℕ} {a : ℕ} {d d' e e' : List ℕ} {p : Scan} (says : Scan
 
   module _ (clear : p.untaken ≡ false) where
     pub refused_many : most < p.count → verdict most r a ≡ check_refused 13 0
-    refused_many m = let c = says.none-untaken clear in (refused_13 most r a).1 (c.0, omega (arith, m, c.1))
+    refused_many m = let c = says.none_untaken clear in (refused_13 most r a).1 (c.0, omega (arith, m, c.1))
 
     module _ (few : p.count ≤ most) (long : most ≤ length d) where
       counted : p.count ≡ length (component_places (plain_listing r a))
-      counted = (says.none-untaken clear).1 ∙ sym (length-map (plain_listing r a) (λ t. t.place))
+      counted = (says.none_untaken clear).1 ∙ sym (length-map (plain_listing r a) (λ t. t.place))
 
       places_are : d' ≡ component_places (plain_listing r a) ++ drop (length (component_places (plain_listing r a))) d
       places_are =
-          let c = says.none-untaken clear in
+          let c = says.none_untaken clear in
           c.2 ∙ fill_over entry_place d (plain_listing r a) (omega (arith, few, long, c.1))
           ∙ ap (λ (n : ℕ). component_places (plain_listing r a) ++ drop n d) (sym (length-map (plain_listing r a) (λ t. t.place)))
 
@@ -54,18 +54,18 @@ module _ {r : List ℕ} {a : ℕ} {d d' e e' : List ℕ} {p : Scan} (says : Scan
 
       pub digests_are : most ≤ length e → NameDigests r d' p.count e'
       digests_are wide =
-          let c = says.none-untaken clear in
+          let c = says.none_untaken clear in
           digests_listed r a p.count _ _ c.1 places_are (c.3 ∙ fill_over entry_digest e (plain_listing r a) (omega (arith, few, wide, c.1)))
 
       pub distinct_said : distinct_names_at r (take p.count d') ≡ distinct_names (plain_listing r a)
       distinct_said = ap (distinct_names_at r) in_use ∙ distinct_listed r a
 
       pub refused_same_name : distinct_names (plain_listing r a) ≡ false → verdict most r a ≡ check_refused 11 0
-      refused_same_name t = let c = says.none-untaken clear in (refused_11 most r a).1 (c.0, omega (arith, few, c.1), t)
+      refused_same_name t = let c = says.none_untaken clear in (refused_11 most r a).1 (c.0, omega (arith, few, c.1), t)
 
       module _ (t : distinct_names (plain_listing r a) ≡ true) where
         fine : verdict most r a ≡ check_accepted (component_places (plain_listing r a))
-        fine = let c = says.none-untaken clear in (accepts most r a (component_places (plain_listing r a))).1 (c.0, omega (arith, few, c.1), t, refl)
+        fine = let c = says.none_untaken clear in (accepts most r a (component_places (plain_listing r a))).1 (c.0, omega (arith, few, c.1), t, refl)
 
         pub accepted_counted : (s : ℕ) → ◌≡◌ {A = CheckSummary} (record { number = 0; place = 0; count = p.count }) (check_summary s (verdict most r a))
         accepted_counted s = rw fine (ap (λ (n : ℕ). record { number = 0; place = 0; count = n }) counted)

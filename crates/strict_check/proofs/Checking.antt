@@ -59,7 +59,7 @@ checked_start r a p e =
 module _ (r : List ℕ) (a : ℕ) (done : List Entry) (p : ℕ) (inv : Checked r a done p) where
   pub checked_end : length r ≤ p → (untaken_places r a ≡ []) × (plain_listing r a ≡ done)
   unfolding lowest
-  checked_end h = (none_untaken r a (inv.none-untaken ∙ ap lowest (from_end r a p h)), inv.listed ∙ rw (list_end r a p h) (append-nil done))
+  checked_end h = (none_untaken r a (inv.none_untaken ∙ ap lowest (from_end r a p h)), inv.listed ∙ rw (list_end r a p h) (append-nil done))
 
   module _ (inside : p < length r) where
     pos : 0 < a
@@ -67,13 +67,13 @@ module _ (r : List ℕ) (a : ℕ) (done : List Entry) (p : ℕ) (inv : Checked r
 
     -- An ill_formed header is untaken.
     pub checked_ill : judge (drop p r) ≡ none → (most : ℕ) → verdict most r a ≡ check_refused 12 p
-    checked_ill ill most = untaken_verdict most r a p (inv.none-untaken ∙ first_ill r a pos p (inv.found inside).1 inside (inv.found inside).2 ill)
+    checked_ill ill most = untaken_verdict most r a p (inv.none_untaken ∙ first_ill r a pos p (inv.found inside).1 inside (inv.found inside).2 ill)
 
     module _ (c : Component) (well : judge (drop p r) ≡ some c) (e : ℕ) (ends : e ≡ p + span_length c) where
       -- A magic inside a span is untaken.
       pub checked_inside : (q : ℕ) → q ≡ next_magic r a (p + a) e → q < e → (most : ℕ) → verdict most r a ≡ check_refused 12 q
       checked_inside q h l most = untaken_verdict most r a q
-          (inv.none-untaken ∙ first_inside r a pos p (inv.found inside).1 inside (inv.found inside).2 c well e ends (omega arith) ∙ ap some (sym h))
+          (inv.none_untaken ∙ first_inside r a pos p (inv.found inside).1 inside (inv.found inside).2 c well e ends (omega arith) ∙ ap some (sym h))
 
       -- The next magic lies behind p.
       pub checked_later : p < next_magic r a (next_place r a e) (length r)
@@ -86,7 +86,7 @@ module _ (r : List ℕ) (a : ℕ) (done : List Entry) (p : ℕ) (inv : Checked r
           → Checked r a (done ++ (record { place = p; component = c } ∷ [])) q
       checked_on o q h = rw h (record {
         none_untaken =
-            inv.none-untaken ∙ first_open r a pos p (inv.found inside).1 inside (inv.found inside).2 c well e ends o ∙ first_search r a (next_place r a e);
+            inv.none_untaken ∙ first_open r a pos p (inv.found inside).1 inside (inv.found inside).2 c well e ends o ∙ first_search r a (next_place r a e);
         listed = inv.listed
             ∙ ap (λ (l : List Entry). done ++ l) (list_well r a pos p (inv.found inside).1 inside (inv.found inside).2 c well e ends
             ∙ ap (λ (l : List Entry). record { place = p; component = c } ∷ l) (list_search r a (next_place r a e)))

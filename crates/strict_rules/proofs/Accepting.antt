@@ -62,12 +62,12 @@ module _ (r : List ℕ) (a : ℕ) (pos : 0 < a) where
         go p pl true c = let s = every_taken p pl c in
             rw (mem_takes (plain_listing r a) (record { place = p; component = s.0 }) (rw every_taken_agree (guarded_mem r a pos p s.0 pl s.1)))
 
-  module _ (all-taken : untaken_places r a ≡ []) where
+  module _ (all_taken : untaken_places r a ≡ []) where
     -- A place with the magic is listed.
     caught : (p : ℕ) → Place a p → magic_at r p ≡ true → (t : Entry) × Memᴰ t (plain_listing r a) × (t.place ≡ p)
     unfolding untaken_places is_untaken
     caught p pl c = takes_mem (plain_listing r a) p (not-false (lists_place (plain_listing r a) p) (rw c at
-        (filter_empty (is_untaken r (plain_listing r a)) (all_places r a) all-taken p (place_listed r a pos p pl (omega (arith, magic-fits r p c))))))
+        (filter_empty (is_untaken r (plain_listing r a)) (all_places r a) all_taken p (place_listed r a pos p pl (omega (arith, magic-fits r p c))))))
 
     -- What is listed has no magic inside.
     clean : (t : Entry) → Memᴰ t (plain_listing r a) → (q : ℕ) → Place a q → t.place < q → q < entry_end t → magic_at r q ≡ false
@@ -97,7 +97,7 @@ pub walks_agree : (r : List ℕ) (a : ℕ) → Accepted r a → plain_listing r 
 walks_agree r a acc = go (dec_lt 0 a)
   where
     go : Dec (0 < a) → plain_listing r a ≡ guarded_listing r a
-    go (yes pos) = every_taken_agree r a pos (listed_every_taken r a pos acc.all-taken)
+    go (yes pos) = every_taken_agree r a pos (listed_every_taken r a pos acc.all_taken)
     go (no n) =
         let z : a ≡ 0 = omega arith in
         rest_none (plain_pick r) r a 0 (step_no_places (plain_pick r) r a 0 z)
@@ -107,18 +107,18 @@ walks_agree r a acc = go (dec_lt 0 a)
 pub accepted_context_free : (r : List ℕ) (a : ℕ) → 0 < a
     → Accepted r a ↔ (EveryMagicTaken r a × (length (guarded_listing r a) ≤ component_limit) × (distinct_names (guarded_listing r a) ≡ true))
 accepted_context_free r a pos = (
-  λ acc. (listed_every_taken r a pos acc.all-taken, rw (← walks_agree r a acc) acc.at_most, rw (← walks_agree r a acc) acc.distinct-names),
+  λ acc. (listed_every_taken r a pos acc.all_taken, rw (← walks_agree r a acc) acc.at_most, rw (← walks_agree r a acc) acc.names_are_distinct),
   λ h. record {
-    all-taken = every_taken_listed r a pos h.0;
+    all_taken = every_taken_listed r a pos h.0;
     at_most = rw (every_taken_agree r a pos h.0) h.1;
-    distinct_names_lem = rw (every_taken_agree r a pos h.0) h.2;
+    names_are_distinct = rw (every_taken_agree r a pos h.0) h.2;
   },
 )
 
 -- And so do both lookups, whatever is asked for.
 pub lookups_agree : (r : List ℕ) (a : ℕ) → Accepted r a → (name : List ℕ) → plain_lookup r a name ≡ guarded_lookup r a name
 lookups_agree r a acc name =
-    first_only (plain_listing r a) acc.distinct-names name ∙ ap (λ (l : List Entry). only_or_refused (filter (bears name) l)) (walks_agree r a acc)
+    first_only (plain_listing r a) acc.names_are_distinct name ∙ ap (λ (l : List Entry). only_or_refused (filter (bears name) l)) (walks_agree r a acc)
 
 -- Demand 3, for a region. The eight bytes at a place lie in one slot only if places are eight apart or more; at a smaller alignment new
 -- bytes could spell a magic together with the end of an untouched slot.
@@ -139,10 +139,10 @@ corrupting r a big acc set r' sp = record {
     frame = slot_frame r a big set r' sp
 
     rest : filter (λ t. not (listed_from_slots set r a t)) (guarded_listing r' a) ≡ filter (λ t. not (listed_from_slots set r a t)) (guarded_listing r a)
-    rest = same_rest r r' a big (in_slots set r a) frame (listed_every_taken r a pos acc.all-taken)
+    rest = same_rest r r' a big (in_slots set r a) frame (listed_every_taken r a pos acc.all_taken)
 
     distinct : distinct_names (guarded_listing r a) ≡ true
-    distinct = rw (walks_agree r a acc) at acc.distinct-names
+    distinct = rw (walks_agree r a acc) at acc.names_are_distinct
 
     name : (t : Entry) → Memᴰ t (guarded_listing r a) → listed_from_slots set r a t ≡ false
         → filter (bears t.component.name) (filter (λ u. not (listed_from_slots set r a u)) (guarded_listing r' a)) ≡ t ∷ []

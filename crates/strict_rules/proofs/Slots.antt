@@ -133,7 +133,7 @@ module _ (r : List ℕ) (a : ℕ) (big : 8 ≤ a) (set : ℕ → Bool) where
   pub slot_frame : (r' : List ℕ) → CorruptedRegion set r a r' → Frame r a (in_slots set r a) r'
   slot_frame r' sp = record {
     same_length = sp.same_length;
-    rest = sp.other-bytes;
+    rest = sp.other_bytes;
     cells = λ p i pl q le lt l. same_slot set (length r) (guarded_listing r a) p i le l (outside_cell p i pl lt) ∙ q;
     spans =
         λ p h pl e q i le lt. same_slot set (length r) (guarded_listing r a) p i le (omega (arith, (guarded_fits r a pos p h e).1)) (outside_span p h pl e i lt)

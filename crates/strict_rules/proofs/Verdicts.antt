@@ -127,8 +127,8 @@ module _ (most : ℕ) (r : List ℕ) (a : ℕ) where
 pub accepted_exactly : {most : ℕ} (r : List ℕ) (a : ℕ) (ps : List ℕ)
     → (verdict most r a ≡ check_accepted ps) ↔ (AcceptedUpTo most r a × (ps ≡ component_places (plain_listing r a)))
 accepted_exactly {most} r a ps = (
-  λ v. let h = (accepts most r a ps).0 v in (record { all-taken = h.0; at_most = h.1; distinct_names_lem = h.2 }, h.3),
-  λ h. (accepts most r a ps).1 (h.0.all-taken, h.0.at_most, h.0.distinct-names, h.1),
+  λ v. let h = (accepts most r a ps).0 v in (record { all_taken = h.0; at_most = h.1; names_are_distinct = h.2 }, h.3),
+  λ h. (accepts most r a ps).1 (h.0.all_taken, h.0.at_most, h.0.names_are_distinct, h.1),
 )
 
 -- The refusals in the paper's words.

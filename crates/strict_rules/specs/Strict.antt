@@ -29,11 +29,11 @@ distinct_names l = no_two (λ t. bears t.component.name) l
 -- The strict check, which is document 01's term, accepts, where at most that many components are allowed.
 pub record AcceptedUpTo (most : ℕ) (r : List ℕ) (a : ℕ) : Type 0 where
   -- "every place with the magic is one the plain walk takes"
-  pub all-taken : untaken_places r a ≡ []
+  pub all_taken : untaken_places r a ≡ []
   -- "there are at most 256 components", 1,024 by request 6
   pub at_most : length (plain_listing r a) ≤ most
   -- "and no two names are equal"
-  pub distinct_names_lem : distinct_names (plain_listing r a) ≡ true
+  pub names_are_distinct : distinct_names (plain_listing r a) ≡ true
 
 abbrev pub Accepted : List ℕ → ℕ → Type 0
 Accepted r a = AcceptedUpTo component_limit r a
