@@ -16,7 +16,7 @@ HERE = os.path.dirname(os.path.realpath(__file__))
 # Lemmas that had today's spelling already, and share it with a definition: only where they are declared or imported.
 LEMMAS = {
     "after_check": "edit_rules/proofs/Exactly.antt",
-    "area_in": "fmap_area/proofs/Records.antt fmap/proofs/Counting.antt",
+    "area_in": "fmap_area/proofs/Records.antt fmap_area/proofs/at/Proof.antt fmap/proofs/Counting.antt",
     "by_parts": "edit_rules/proofs/Sums.antt",
     "count_fits": "strict_check/proofs/Answers.antt strict_check/proofs/check/Proof.antt",
     "field_fits": "edit_rules/proofs/Written.antt edit_rules/proofs/Sums.antt",
@@ -27,6 +27,8 @@ LETTER = r"[\w'\-◌·]"
 # Fields of our records with a dash, which stand behind a dot too.
 FIELDS = """all-tests area-tests all-taken content-at count-read distinct-names done-again header-fits length-is minor-read name-at name-max name-min name-part
     none-untaken not-refused offset-max offset-min other-bytes other-components passes-to-13 record-read record-zero some-area then-zero without-magic""".split()
+# A name of the library's that one of ours had too.
+LIBRARY = {"or-false": "strict_rules/proofs/Slots.antt"}
 KEPT = re.compile(r"\b(\w+)\.now ≡ \1\.now\b")
 
 
@@ -62,6 +64,9 @@ def main():
                 if name.endswith(".antt") and any(path.endswith("crates/" + p) for p in places.split()):
                     new = re.sub(r"(?<![\w'\-.])" + lemma + r"(?!" + LETTER + r")", lemma + "_lem", new)
             new = turn(new, name == "Proof.antt")
+            for theirs, place in LIBRARY.items():
+                if path.endswith("crates/" + place):
+                    new = re.sub(r"(?<!" + LETTER + r")" + table[theirs] + r"(?!" + LETTER + r")", theirs, new)
             if name.endswith(".rt"):
                 new = KEPT.sub(r"\1.exit.now ≡ \1.entry.now", new)
             if new != old:

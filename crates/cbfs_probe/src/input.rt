@@ -7,14 +7,14 @@ pub(crate) type Bytes = [u8; 65536];
 pub(crate) type Name = [u8; 1024];
 
 // A number, and whether all its bytes were there.
-#[derive(Drop)]
+#[derive(Clone, Copy)]
 pub(crate) struct Got {
     pub(crate) value: usize,
     pub(crate) whole: bool,
 }
 
 // What follows the operation: three lengths and the number.
-#[derive(Drop)]
+#[derive(Clone, Copy)]
 pub(crate) struct Case {
     pub(crate) image: usize,
     pub(crate) name: usize,

@@ -91,7 +91,7 @@ pub const FMAP_VER_MAJOR: u8 = 1;
 pub const AREAS_MAX: usize = 256;
 
 // The bytes of an image from start up to end. Its places are the multiples of align, counted from start.
-#[derive(Drop)]
+#[derive(Clone, Copy)]
 pub struct Region {
     pub start: usize,
     pub end: usize,
@@ -99,7 +99,7 @@ pub struct Region {
 }
 
 // A refusal.
-#[derive(Drop)]
+#[derive(Clone, Copy)]
 pub struct Refusal {
     // the number, by the table in README.md
     pub number: u32,
@@ -108,14 +108,14 @@ pub struct Refusal {
 }
 
 // The region that an image's master header gives, or refusals 1 to 8.
-#[derive(Drop)]
+#[derive(Clone, Copy)]
 pub enum Master {
     Read(Region),
     Refused(Refusal),
 }
 
 // The numbers of a component's header.
-#[derive(Drop)]
+#[derive(Clone, Copy)]
 pub struct Header {
     // from the component's place to its content
     pub offset: usize,
@@ -130,7 +130,7 @@ pub struct Header {
 }
 
 // A component that a walk has taken, as it is answered.
-#[derive(Drop)]
+#[derive(Clone, Copy)]
 pub struct Taken {
     pub place: usize,
     pub header: Header,
@@ -139,7 +139,7 @@ pub struct Taken {
 }
 
 // A step of a walk: a component, or that none is left, or the refusal.
-#[derive(Drop)]
+#[derive(Clone, Copy)]
 pub enum Step {
     Took(Taken),
     NoneLeft,
@@ -147,14 +147,14 @@ pub enum Step {
 }
 
 // A lookup by name: the component, or the refusal.
-#[derive(Drop)]
+#[derive(Clone, Copy)]
 pub enum Found {
     At(Taken),
     Refused(Refusal),
 }
 
 // The strict check's answer: the components' places in order, zeros after them, and their count; or a refusal, and zeros elsewhere.
-#[derive(Drop)]
+#[derive(Clone, Copy)]
 pub struct Directory {
     // 0 where the image is accepted, else the refusal's number and its place
     pub number: u32,
@@ -164,7 +164,7 @@ pub struct Directory {
 }
 
 // An edit: the place of the component that was written or removed, or the refusal. Where it is refused, no byte has changed.
-#[derive(Drop)]
+#[derive(Clone, Copy)]
 pub enum Edited {
     Done(usize),
     Refused(Refusal),
@@ -173,7 +173,7 @@ pub enum Edited {
 // What is loaded, a stage's binary or a segment of a payload: the len bytes at the place `source` of the image are for the address `load`, where memlen bytes
 // are theirs.
 // Fields that a segment's type does not use are 0, and so is the type of a stage's binary.
-#[derive(Drop)]
+#[derive(Clone, Copy)]
 pub struct Segment {
     pub kind: u32,
     pub compression: u32,
@@ -185,7 +185,7 @@ pub struct Segment {
 
 // The load plan of a stage: the len bytes at the place `source` of the image are for the address `load`, where memlen bytes are zeroed; or a refusal, and
 // zeros elsewhere.
-#[derive(Drop)]
+#[derive(Clone, Copy)]
 pub struct StagePlan {
     // 0 where the stage can be loaded, else the refusal's number and its place
     pub number: u32,
@@ -199,7 +199,7 @@ pub struct StagePlan {
 }
 
 // The load plan of a payload: its segments in order, the ENTRY last, zeros after them, and their count; or a refusal, and zeros elsewhere.
-#[derive(Drop)]
+#[derive(Clone, Copy)]
 pub struct PayloadPlan {
     // 0 where the payload can be loaded, else the refusal's number and its place
     pub number: u32,
@@ -209,7 +209,7 @@ pub struct PayloadPlan {
 }
 
 // An area of a flash map: where it begins, how long it is, its flags, and the place of its name.
-#[derive(Drop)]
+#[derive(Clone, Copy)]
 pub struct Area {
     pub offset: usize,
     pub size: usize,
@@ -218,7 +218,7 @@ pub struct Area {
 }
 
 // A flash map: its areas in map order, zeros after them, and their count; or a refusal, and zeros elsewhere.
-#[derive(Drop)]
+#[derive(Clone, Copy)]
 pub struct FlashMap {
     // 0 where the map was read, else the refusal's number and its place
     pub number: u32,
@@ -230,7 +230,7 @@ pub struct FlashMap {
 }
 
 // The signatures of flash maps in a run of bytes: none, one and its place, or several.
-#[derive(Drop)]
+#[derive(Clone, Copy)]
 pub enum SignatureSearch {
     NotFound,
     Found(usize),

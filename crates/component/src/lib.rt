@@ -12,7 +12,7 @@ ghost use Rattle.component.specs.Component.{judged, name_of, content_of, bears_n
 use cbfs_types::{FIELD_UNIT, HEADER_LEN, Header, NAME_MAX, OFFSET_MAX, OFFSET_MIN};
 
 // What the judge says of a part: the numbers of the header that it begins with, or that none well formed stands there.
-#[derive(Drop)]
+#[derive(Clone, Copy)]
 pub enum Judged {
     WellFormed(Header),
     IllFormed,

@@ -13,14 +13,14 @@ use cbfs_types::{COMPONENTS_MAX, HEADER_LEN, LEN_MAX, Refusal, Region};
 use edit_slots::{Slot, SlotSearch};
 
 // What an edit decides: the slot to write, or the refusal.
-#[derive(Drop)]
+#[derive(Clone, Copy)]
 pub enum Choice {
     Write(Slot),
     Refuse(Refusal),
 }
 
 // The three edits.
-#[derive(Drop)]
+#[derive(Clone, Copy)]
 enum EditKind {
     Add,
     Replace,

@@ -11,7 +11,7 @@ ghost use Rattle.edit_slots.specs.SlotsByPlaces.{run, free_run_answer, span_end,
 use cbfs_types::{FIELD_UNIT, HEADER_LEN, LEN_MAX};
 
 // The bytes from start up to end, and the type of the component that stands there or is to.
-#[derive(Drop)]
+#[derive(Clone, Copy)]
 pub struct Slot {
     pub start: usize,
     pub end: usize,
@@ -19,7 +19,7 @@ pub struct Slot {
 }
 
 // The slot that an edit writes, or that none was found.
-#[derive(Drop)]
+#[derive(Clone, Copy)]
 pub enum SlotSearch {
     Found(Slot),
     NotFound,

@@ -17,7 +17,7 @@ pub use cbfs_types::{Area, FlashMap, SignatureSearch};
 pub use fmap_signature::signatures;
 
 // A map without its areas, and the place of the first of them; or a refusal's number, and zeros.
-#[derive(Drop)]
+#[derive(Clone, Copy)]
 struct MapHeader {
     number: u32,
     minor: u8,

@@ -17,7 +17,7 @@ use cbfs_types::{
 };
 
 // The segment of a record, or the number of a refusal.
-#[derive(Drop)]
+#[derive(Clone, Copy)]
 enum JudgedRecord {
     Fits(Segment),
     Refused(u32),

@@ -12,7 +12,7 @@ use cbfs_types::{COMPONENTS_MAX, Directory, HEADER_LEN, Region};
 use component::Judged;
 
 // A directory without its places, which stand in an array that the caller lends.
-#[derive(Drop)]
+#[derive(Clone, Copy)]
 pub struct CheckSummary {
     // 0 where the image is accepted
     pub number: u32,
@@ -22,7 +22,7 @@ pub struct CheckSummary {
 
 // What one pass over a region finds: the lowest place with the magic that the plain walk does not take; or else how many components there
 // are. The places of as many as the arrays have room for, and the digests of their names, are stored as it goes.
-#[derive(Drop)]
+#[derive(Clone, Copy)]
 struct Scan {
     untaken: bool,
     place: usize,

@@ -1,6 +1,6 @@
 -- The only bearer of a name.
 use Prim.Native.Nat.{ℕ}
-use mathlib.Core.Path.{◌≡◌, refl, sym, subst, ◌∙◌}
+use mathlib.Core.Path.{◌≡◌, refl, sym, ap, subst, ◌∙◌}
 use mathlib.Core.List.Memᴰ
 use mathlib.Core.List.{List, [], ◌∷◌, Memᴰ, cons≢nil, nil≢cons, head-eq_of_cons-eq}
 use mathlib.Core.List.{tail-eq_of_cons-eq}
@@ -79,8 +79,11 @@ lone (x ∷ xs) d t m = go (Memᴰ.cases_cons m) (λ n. lone xs s.1 t n)
     other false e n = refl
     other true e n = absurd (true≢false (sym (name_bears x.component.name t (sym (bears_name_lem t.component.name x e))) ∙ no_bearer t n))
 
+    here : filter (bears x.component.name) (x ∷ xs) ≡ x ∷ []
+    here = rw (name_bears x.component.name x refl) (ap (λ (l : List Entry). x ∷ l) (filter_none (bears x.component.name) xs no_bearer))
+
     go : (t ≡ x) ⊎ Memᴰ t xs → (Memᴰ t xs → filter (bears t.component.name) xs ≡ t ∷ []) → filter (bears t.component.name) (x ∷ xs) ≡ t ∷ []
-    go (inl q) ih = rw (q, name_bears x.component.name x refl, filter_none (bears x.component.name) xs no_bearer)
+    go (inl q) ih = subst (λ (y : Entry). filter (bears y.component.name) (x ∷ xs) ≡ y ∷ []) (sym q) here
     go (inr n) ih = rw (other (bears t.component.name x) refl n) (ih n)
 
 -- And then the first bearer of any name is the only one.

@@ -6,7 +6,7 @@ use mathlib.Core.Path.{◌≡◌, refl, sym, ap, ◌∙◌}
 use mathlib.Core.List.Memᴰ
 use mathlib.Core.List.{List, [], ◌∷◌, Memᴰ}
 use mathlib.Core.Logic.{◌⊎◌, inl, inr}
-use mathlib.Core.Bool.{Bool, true, false, ◌&&◌, true≢false, and-true, and-false, or_false}
+use mathlib.Core.Bool.{Bool, true, false, ◌&&◌, true≢false, and-true, and-false, or-false}
 use mathlib.Core.Option.{Option, some, none}
 use lib.ListN.{length}
 use lib.Dec.{leb, ltb, eqb}
@@ -234,7 +234,7 @@ module _ (set : ℕ → Bool) (e : ℕ) where
             lt-ltb x.place (first_start e xs) (start_after xs x.place x< up.0),
             within_before xs x.place up.0,
           )
-          (or_false _ ∙ and-true _ ∙ and-true (set x.place))
+          (or-false _ ∙ and-true _ ∙ and-true (set x.place))
       go (inr n) ih = rw (le-ltb t.place (first_start e xs) (start_before xs up.1 t n), and-false (set x.place && leb x.place t.place)) (ih n)
 
 -- The place of a component lies in a slot of the set exactly if the set has its slot.

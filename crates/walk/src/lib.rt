@@ -9,7 +9,7 @@ use cbfs_types::{Header, Taken};
 use component::Judged;
 
 // A step over a region's bytes: a component, with places counted from the region's start, or that none is left.
-#[derive(Drop)]
+#[derive(Clone, Copy)]
 pub enum WalkStep {
     Took(Taken),
     NoneLeft,

@@ -9,7 +9,7 @@ use cbfs_types::{HEADER_LEN, Taken};
 use walk::WalkStep;
 
 // A component, or the number of a refusal.
-#[derive(Drop)]
+#[derive(Clone, Copy)]
 pub enum BearerSearch {
     At(Taken),
     Refused(u32),

@@ -1,0 +1,16 @@
+use Prim.Native.Nat.{◌+◌, ◌*◌, ◌≤◌}
+use mathlib.Core.Path.{◌≡◌, sym, refl, ◌∙◌}
+use native.Mathlib.Omega.{arith}
+use lib.ListN.{length}
+use Rattle.bytes_read.specs.Lists.{any}
+use Rattle.fmap_area.specs.Area.{area_has_name}
+use Rattle.fmap.specs.Fmap.{areas_at}
+use Rattle.fmap.proofs.Counting.{any_here, any_not, any_end}
+use borrow.Author.Rules.{rules}
+use Rattle.fmap.proofs.name_used.Given as goal
+
+abbrev pub invariant-loop-k : goal.invariant-loop-k
+invariant-loop-k l = (l.p + 42 * l.k ≤ length l.s) × (any (area_has_name l.s l.name) (areas_at l.s l.count l.from) ≡ any (area_has_name l.s l.name) (areas_at l.s l.k l.p))
+
+abbrev pub decreases-loop-k : goal.decreases-loop-k
+decreases-loop-k l = l.k

@@ -1,0 +1,6 @@
+use mathlib.Core.Path.{refl, ◌∙◌}
+use borrow.Author.Rules.{rules}
+use Rattle.region_read.proofs.content_at_in.Goals as goal
+
+pub returns-clause-result_value : goal.returns-clause-result_value
+returns-clause-result_value c = c.content.ensures.result_value ∙ rw c.from_place.ensures

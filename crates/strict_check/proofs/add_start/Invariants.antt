@@ -1,0 +1,14 @@
+use Prim.Native.Nat.{ℕ, ◌+◌, ◌-◌, ◌≤◌, ◌<◌}
+use mathlib.Core.Path.{◌≡◌, refl, ap, ◌∙◌}
+use mathlib.Core.List.{List, ◌++◌, map}
+use native.Mathlib.Omega.{arith}
+use lib.ListN.{length, take, drop, get_or, set, length-set}
+use Rattle.strict_check.proofs.Directories.{shifted_at, shifted_next}
+use borrow.Author.Rules.{rules}
+use Rattle.strict_check.proofs.add_start.Given as goal
+
+abbrev pub invariant-loop-i : goal.invariant-loop-i
+invariant-loop-i l = (l.i ≤ l.n) × (l.d ≡ map (λ p. l.start + p) (take l.i l.initial.d) ++ drop l.i l.initial.d) × (length l.d ≡ length l.initial.d)
+
+abbrev pub decreases-loop-i : goal.decreases-loop-i
+decreases-loop-i l = l.n - l.i
