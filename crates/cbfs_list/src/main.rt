@@ -2,16 +2,20 @@
 // The listing is gathered on a page, whose first `used` bytes are in use, and written once.
 // The master header is read once, and the walk asked over its region, so that the program stands on few crates and is soon proved.
 #![tactic(auto)]
+
+ghost use Rattle.std.specs.Prelude.{◌≤◌, IfOk, length};
+
 use cbfs_types::{Master, Region, Step, Taken};
-use libc::{STDIN_FILENO, STDOUT_FILENO};
+use itoa::Buffer;
+use std::io;
+use std::io::{Read, Stdin};
 
 // Room for any listing: a component takes 24 bytes of the image and more, and its line 22 and its name.
 type Page = [u8; 262144];
 
 fn put_number(page: &mut Page, used: usize, n: usize) -> usize {
-    let mut digits = [0u8; 20];
-    let k = io::decimal(n as u64, &mut digits);
-    program_text::put(page, used, &digits[..k])
+    let mut digits = Buffer::new();
+    program_text::put(page, used, digits.format(n).as_bytes())
 }
 
 fn put_component(page: &mut Page, used: usize, image: &[u8], region: Region, t: Taken) -> usize {
@@ -70,15 +74,30 @@ fn put_answer(page: &mut Page, image: &[u8]) -> usize {
     }
 }
 
-fn write(page: &Page, used: usize) {
-    io::write_all(STDOUT_FILENO, bytes_read::part(page, 0, used));
+// Reads until `buf` is full or the input ends. Answers how many bytes it put at the start of `buf`.
+fn read_full(stdin: &mut Stdin, buf: &mut [u8]) -> io::Result<usize>
+    ensures { IfOk result (λ n. n ≤ length buf.new) }
+{
+    let mut done = 0;
+    while done < buf.len() {
+        let n = stdin.read(&mut buf[done..])?;
+        if n == 0 {
+            break;
+        }
+        done += n;
+    }
+    Ok(done)
 }
 
-fn main() {
+fn write(rt: &impl Print, page: &Page, used: usize) -> io::Result<()> {
+    rt.write_all(bytes_read::part(page, 0, used))
+}
+
+fn main(rt: HostRuntime) -> io::Result<()> {
     // One byte more than an image may have, to notice a longer one.
     let mut input = [0u8; 65537];
-    let n = io::read_full(STDIN_FILENO, &mut input);
+    let n = read_full(&mut rt.stdin(), &mut input)?;
     let mut page = [0u8; 262144];
     let used = put_answer(&mut page, &input[..n]);
-    write(&page, used);
+    write(&rt, &page, used)
 }

@@ -1,5 +1,8 @@
 // The fields of a case, read from standard input.
-use libc::STDIN_FILENO;
+ghost use Rattle.std.specs.Prelude.{◌≤◌, IfOk, length};
+
+use std::io;
+use std::io::{Read, Stdin};
 
 // As long as an image or a content, and a name, may be.
 pub(crate) type Bytes = [u8; 65536];
@@ -25,41 +28,56 @@ pub(crate) struct Case {
 // In place of a length: the field is cut short, or over its limit.
 const CUT: usize = usize::MAX;
 
+// Reads until `buf` is full or the input ends. Answers how many bytes it put at the start of `buf`.
+fn read_full(stdin: &mut Stdin, buf: &mut [u8]) -> io::Result<usize>
+    ensures { IfOk result (λ n. n ≤ length buf.new) }
+{
+    let mut done = 0;
+    while done < buf.len() {
+        let n = stdin.read(&mut buf[done..])?;
+        if n == 0 {
+            break;
+        }
+        done += n;
+    }
+    Ok(done)
+}
+
 // The next bytes, at the start of eight zeros, as a little-endian number.
-fn little(eight: &mut [u8], n: usize) -> Got {
+fn little(stdin: &mut Stdin, eight: &mut [u8], n: usize) -> io::Result<Got> {
     if eight.len() < n {
-        return Got {
+        return Ok(Got {
             value: 0,
             whole: false,
-        };
+        });
     }
-    let got = io::read_full(STDIN_FILENO, &mut eight[0..n]);
-    Got {
+    let got = read_full(stdin, &mut eight[0..n])?;
+    Ok(Got {
         value: bytes_read::le64(eight, 0) as usize,
         whole: got == n,
-    }
+    })
 }
 
 // A number of n bytes, at most eight.
-pub(crate) fn number(n: usize) -> Got {
+pub(crate) fn number(stdin: &mut Stdin, n: usize) -> io::Result<Got> {
     let mut eight = [0u8; 8];
-    little(&mut eight, n)
+    little(stdin, &mut eight, n)
 }
 
 // A field of bytes behind its length, at the start of `into`, which is as long as the field may be. Answers its length.
-fn field(into: &mut [u8]) -> usize {
-    let length = number(4);
+fn field(stdin: &mut Stdin, into: &mut [u8]) -> io::Result<usize> {
+    let length = number(stdin, 4)?;
     let n = length.value;
     if !length.whole {
-        return CUT;
+        return Ok(CUT);
     }
     if into.len() < n {
-        return CUT;
+        return Ok(CUT);
     }
-    if io::read_full(STDIN_FILENO, &mut into[0..n]) != n {
-        return CUT;
+    if read_full(stdin, &mut into[0..n])? != n {
+        return Ok(CUT);
     }
-    n
+    Ok(n)
 }
 
 // In place of the fields where one is cut short or over its limit; nothing after it is read.
@@ -76,23 +94,28 @@ fn cut() -> Case {
 }
 
 // The fields after the operation. The number's `whole` says that all of them were there.
-pub(crate) fn fields(image: &mut Bytes, name: &mut Name, content: &mut Bytes) -> Case {
-    let i = field(image);
+pub(crate) fn fields(
+    stdin: &mut Stdin,
+    image: &mut Bytes,
+    name: &mut Name,
+    content: &mut Bytes,
+) -> io::Result<Case> {
+    let i = field(stdin, image)?;
     if i == CUT {
-        return cut();
+        return Ok(cut());
     }
-    let k = field(name);
+    let k = field(stdin, name)?;
     if k == CUT {
-        return cut();
+        return Ok(cut());
     }
-    let c = field(content);
+    let c = field(stdin, content)?;
     if c == CUT {
-        return cut();
+        return Ok(cut());
     }
-    Case {
+    Ok(Case {
         image: i,
         name: k,
         content: c,
-        number: number(8),
-    }
+        number: number(stdin, 8)?,
+    })
 }

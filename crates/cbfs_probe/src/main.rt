@@ -10,6 +10,8 @@ use cbfs_types::{AREAS_MAX, SEGMENTS_MAX};
 use fmap::{Area, FlashMap};
 use input::{Bytes, Case, Name};
 use output::{Numbers, Page, Word};
+use std::io;
+use std::io::Stdin;
 
 // A refusal; all else in the answer is zero or empty exactly if `rest` is 0.
 fn refused(page: &mut Page, used: usize, r: Refusal, rest: usize) -> usize {
@@ -430,27 +432,41 @@ fn answered(
 }
 
 // Reads a case and answers it, and says whether the run goes on. An end of the input in place of an operation just ends it.
-fn one_case(page: &mut Page, image: &mut Bytes, name: &mut Name, content: &mut Bytes) -> bool {
-    let letter = input::number(1);
+fn one_case(
+    rt: &impl Print,
+    stdin: &mut Stdin,
+    page: &mut Page,
+    image: &mut Bytes,
+    name: &mut Name,
+    content: &mut Bytes,
+) -> io::Result<bool> {
+    let letter = input::number(stdin, 1)?;
     if !letter.whole {
-        return false;
+        return Ok(false);
     }
-    let c = input::fields(image, name, content);
+    let c = input::fields(stdin, image, name, content)?;
     let used = answered(page, (letter.value % 256) as u8, c, image, name, content);
-    output::write(page, used)
+    output::write(rt, page, used)
 }
 
-// Case after case. Nothing says that the input ends, so the turns count down from a number that no run uses up.
-fn main() {
+// Case after case. Nothing says that the input ends, so the turns are a number that no run uses up.
+fn main(rt: HostRuntime) -> io::Result<()> {
     let mut page = [0u8; 262144];
     let mut image = [0u8; 65536];
     let mut name = [0u8; 1024];
     let mut content = [0u8; 65536];
-    let mut turns = u64::MAX;
-    while turns > 0 {
-        if !one_case(&mut page, &mut image, &mut name, &mut content) {
-            return;
+    let mut stdin = rt.stdin();
+    for _ in 0..u64::MAX {
+        if !one_case(
+            &rt,
+            &mut stdin,
+            &mut page,
+            &mut image,
+            &mut name,
+            &mut content,
+        )? {
+            break;
         }
-        turns -= 1;
     }
+    Ok(())
 }

@@ -1,5 +1,6 @@
 // The lines of an answer, gathered on a page whose first `used` bytes are in use. Each function answers how many are in use after it.
-use libc::STDOUT_FILENO;
+use itoa::Buffer;
+use std::io;
 
 // Room for any answer. Each byte of a 65,536-byte image becomes at most two digits, and a component, which takes 40 bytes of it or more,
 // adds at most 31 to its line: less than 182,000 bytes. A directory of 1,024 places takes 6 bytes for each, a map of 256 areas less than 32 for each.
@@ -44,17 +45,17 @@ pub(crate) const DONE: Word = *b"done     ";
 pub(crate) const IMAGE: Word = *b"image    ";
 
 // Writes an answer, or `bad case` for none, and says whether there was one.
-pub(crate) fn write(page: &Page, used: usize) -> bool {
+pub(crate) fn write(rt: &impl Print, page: &Page, used: usize) -> io::Result<bool> {
     if used == 0 {
-        return bad_case();
+        return bad_case(rt);
     }
-    io::write_all(STDOUT_FILENO, bytes_read::part(page, 0, used));
-    true
+    rt.write_all(bytes_read::part(page, 0, used))?;
+    Ok(true)
 }
 
-fn bad_case() -> bool {
-    io::write_all(STDOUT_FILENO, b"bad case\n");
-    false
+fn bad_case(rt: &impl Print) -> io::Result<bool> {
+    rt.write_all(b"bad case\n")?;
+    Ok(false)
 }
 
 // One byte, as a tab or a line end.
@@ -82,9 +83,8 @@ fn word(page: &mut Page, used: usize, w: Word) -> usize {
 // A tab and a decimal number.
 pub(crate) fn number(page: &mut Page, used: usize, n: usize) -> usize {
     let at = byte(page, used, b'\t');
-    let mut digits = [0u8; 20];
-    let k = io::decimal(n as u64, &mut digits);
-    program_text::put(page, at, &digits[..k])
+    let mut digits = Buffer::new();
+    program_text::put(page, at, digits.format(n).as_bytes())
 }
 
 // A tab and a number, for each of the first n.
