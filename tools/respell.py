@@ -19,7 +19,7 @@ LEMMAS = {
     "area_in": "fmap_area/proofs/Records.antt fmap_area/proofs/at/Proof.antt fmap/proofs/Counting.antt",
     "by_parts": "edit_rules/proofs/Sums.antt",
     "count_fits": "strict_check/proofs/Answers.antt strict_check/proofs/check/Proof.antt",
-    "field_fits": "edit_rules/proofs/Written.antt edit_rules/proofs/Sums.antt",
+    "field_fits": "edit_rules/proofs/Written.antt edit_rules/proofs/Sums.antt edit_decide/proofs/ContainsMagic.antt edit_write/proofs/write_component/Proof.antt",
     "from_place": "image_claims/proofs/Parts.antt load_segment/proofs/Finding.antt",
     "strict_place": "image_claims/proofs/Refusing.antt bench_calls/proofs/Refusing.antt",
 }

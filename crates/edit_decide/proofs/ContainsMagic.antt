@@ -17,7 +17,7 @@ use Rattle.walk.proofs.Picks.{magic-fits, magic_inside_of}
 use Rattle.walk.proofs.Searching.{next_end, next_here, next_not, by_places, next_has_magic, magic_end}
 use Rattle.edit_decide.specs.Choices.{distance_to_place}
 use Rattle.edit_rules.specs.Edit.{field_length, offset_for, header_bytes, field_bytes, span_stating, sum_for, span_bytes, header_for, contains_magic}
-use Rattle.edit_rules.proofs.Written.{field_fits, field_most, length_header, length-field}
+use Rattle.edit_rules.proofs.Written.{field_fits_lem, field_most, length_header, length-field}
 use Rattle.edit_rules.proofs.Filling.{magic_bytes, magic_first_byte}
 use Rattle.edit_rules.proofs.Theorems.{contains_magic_exactly}
 
@@ -132,8 +132,8 @@ module _ (name : List ℕ) (kind : ℕ) (content : List ℕ) where
       rw e (ap (λ (m : ℕ). get_or ((head ++ name) ++ (replicate (field_length (length name) - length name) 0 ++ content)) m 0) n
       ∙ get_or-append-add (head ++ name) (replicate (field_length (length name) - length name) 0 ++ content) (i - (24 + length name)) 0
       ∙ get_or-append (replicate (field_length (length name) - length name) 0) content 0 (i - (24 + length name))
-      (rw (length-replicate {A = ℕ}) (omega (arith, field_fits (length name))))
-      ∙ get_or-replicate (field_length (length name) - length name) (i - (24 + length name)) 0 0 (omega (arith, field_fits (length name))))
+      (rw (length-replicate {A = ℕ}) (omega (arith, field_fits_lem (length name))))
+      ∙ get_or-replicate (field_length (length name) - length name) (i - (24 + length name)) 0 0 (omega (arith, field_fits_lem (length name))))
 
   -- In the name, and in the content.
 
@@ -207,7 +207,7 @@ module _ (name : List ℕ) (kind : ℕ) (content : List ℕ) where
       go (yes h) = no_letter_of_magic s q q (omega arith) (omega arith) (omega (arith, in_zeros q h hi))
       go (no h) =
           no_letter_of_magic s q (24 + length name) (omega arith) k
-          (omega (arith, in_zeros (24 + length name) (omega arith) (omega (arith, field_fits (length name)))))
+          (omega (arith, in_zeros (24 + length name) (omega arith) (omega (arith, field_fits_lem (length name)))))
 
   -- 16, by the parts.
 

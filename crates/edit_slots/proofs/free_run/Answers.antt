@@ -1,0 +1,37 @@
+use Prim.Native.Nat.{ℕ, ◌+◌, ◌-◌, ◌<◌}
+use mathlib.Core.Path.{◌≡◌, refl, sym, ap, ◌∙◌}
+use mathlib.Core.List.{[], ◌∷◌}
+use lib.ListN.{length, drop}
+use Rattle.walk.specs.Walk.{next_place}
+use Rattle.edit_rules.specs.Edit.{lowest_fitting}
+use Rattle.edit_slots.specs.SlotsByPlaces.{run, free_run_answer, runs_between}
+use Rattle.edit_slots.proofs.SlotsByPlaces.{runs_end, runs_here, runs_on}
+use borrow.Author.Rules.{rules}
+use Rattle.edit_slots.proofs.free_run.Goals as goal
+use Rattle.edit_slots.proofs.free_run.Goals.{After-run_fits}
+
+inside : (c : After-run_fits) → c.loop-i.i < length c.args.ps.now
+inside c = c.loop-i-test.true
+
+pub loop-i-init : goal.loop-i-init
+loop-i-init c = refl
+
+pub returns-then-run_fits-clause-value : goal.returns-then-run_fits-clause-value
+returns-then-run_fits-clause-value c =
+    let a = c.args in
+    let here = runs_here a.r.now a.ps.now c.loop-i.i a.align a.n c.loop-i.from (inside (goal.at.returns-then-run_fits-clause-value c).After-run_fits) (sym c.run_fits.ensures ∙ c.if-run_fits.true) in
+    sym (ap (free_run_answer a.kind) (c.loop-i.invariant ∙ here))
+
+pub loop-i-preserved : goal.loop-i-preserved
+loop-i-preserved c =
+    let a = c.args in
+    let from = c.next_place-from.ensures.value ∙ ap (next_place a.r.now a.align) c.span_end.ensures in
+    c.loop-i.invariant ∙ runs_on a.r.now a.ps.now c.loop-i.i a.align a.n c.loop-i.from (inside (goal.at.loop-i-preserved c).After-run_fits) (sym c.run_fits.ensures ∙ c.if-run_fits.false)
+    ∙ ap (λ (m : ℕ). lowest_fitting a.n (runs_between a.r.now a.align m (drop (c.loop-i.i + 1) a.ps.now))) (sym from)
+
+pub returns-clause-value : goal.returns-clause-value
+returns-clause-value c =
+    let a = c.args in
+    let none_left = runs_end a.r.now a.ps.now c.loop-i.i a.align a.n c.loop-i.from c.loop-i-test.false in
+    let last : c.last_run.result ≡ free_run_answer a.kind (lowest_fitting a.n (run c.loop-i.from (length a.r.now) ∷ [])) = c.last_run.ensures in
+    last ∙ sym (ap (free_run_answer a.kind) (c.loop-i.invariant ∙ none_left))

@@ -1,0 +1,55 @@
+use mathlib.Core.Path.{refl, sym, ◌∙◌}
+use native.Mathlib.Omega.{arith}
+use Rattle.region.specs.Region.{region_bytes}
+use Rattle.strict_rules.specs.Strict.{component_limit}
+use Rattle.edit_rules.specs.Edit.{remove, remove_decision}
+use Rattle.edit_decide.specs.Choices.{kind_of_name}
+use Rattle.edit_write.specs.EditWrite.{remove_in}
+use Rattle.edit_write.proofs.Writing.{edit_refused_lem}
+use Rattle.edit_write.proofs.Writes.{ErasesSlot, remove_erases}
+use borrow.Author.Rules.{rules}
+use Rattle.edit_write.proofs.remove.Goals as goal
+use Rattle.edit_write.proofs.remove.Goals.{In-Write}
+
+says : (c : In-Write) → let a = c.args in
+    ErasesSlot a.image.now a.region c.in-Write.z (remove_in a.image.now a.region a.name.now)
+says c = let a = c.args in
+    remove_erases a.image.now a.region a.name.now c.in-Write.z (sym c.remove-c.ensures.value ∙ c.in-Write.is)
+
+pub erase_at-requires : goal.erase_at-requires
+erase_at-requires c = let p = says (goal.at.erase_at-requires c).In-Write in (p.order, p.inside)
+
+pub overflow_add-result : goal.overflow_add-result
+overflow_add-result c =
+    let p = says (goal.at.overflow_add-result c).In-Write in
+    omega (arith, p.inside, p.order)
+
+pub returns-in-Refuse-clause-value : goal.returns-in-Refuse-clause-value
+unfolding remove
+returns-in-Refuse-clause-value c =
+    let a = c.args in
+    let e =
+    edit_refused_lem a.image.now a.region (remove_decision component_limit (region_bytes a.image.now a.region) a.region.align a.name.now)
+    (kind_of_name (region_bytes a.image.now a.region) a.region.align a.name.now) c.in-Refuse.x
+    (sym c.remove-c.ensures.value ∙ c.in-Refuse.is) in
+    e.0
+
+pub returns-in-Refuse-clause-bytes : goal.returns-in-Refuse-clause-bytes
+unfolding remove
+returns-in-Refuse-clause-bytes c =
+    let a = c.args in
+    let e =
+    edit_refused_lem a.image.now a.region (remove_decision component_limit (region_bytes a.image.now a.region) a.region.align a.name.now)
+    (kind_of_name (region_bytes a.image.now a.region) a.region.align a.name.now) c.in-Refuse.x
+    (sym c.remove-c.ensures.value ∙ c.in-Refuse.is) in
+    e.1
+
+pub returns-in-Write-clause-value : goal.returns-in-Write-clause-value
+returns-in-Write-clause-value c =
+    let p = says (goal.at.returns-in-Write-clause-value c).In-Write in
+    p.answer
+
+pub returns-in-Write-clause-bytes : goal.returns-in-Write-clause-bytes
+returns-in-Write-clause-bytes c =
+    let p = says (goal.at.returns-in-Write-clause-bytes c).In-Write in
+    c.erase_at.ensures ∙ p.bytes

@@ -1,0 +1,13 @@
+use mathlib.Core.Path.{refl, sym, ◌∙◌}
+use borrow.Author.Rules.{rules}
+use Rattle.image_load.proofs.payload.Goals as goal
+
+pub returns-in-Read-clause-value : goal.returns-in-Read-clause-value
+returns-in-Read-clause-value c =
+    let e = sym c.read-m.ensures.value ∙ c.in-Read.is in
+    c.plan.ensures.value ∙ rw e
+
+pub returns-in-Refused-clause-value : goal.returns-in-Refused-clause-value
+returns-in-Refused-clause-value c =
+    let e = sym c.read-m.ensures.value ∙ c.in-Refused.is in
+    c.refused_payload.ensures ∙ rw e
