@@ -46,7 +46,8 @@ def main():
         def one(m):
             # What Rattle makes of a function's code is named behind a dot, with dashes of its own.
             if "-" in m.group(1) and m.start() and text[m.start() - 1] == "." and (of_function or m.group(1) not in FIELDS):
-                return m.group(0)
+                if not re.search(r"\b[A-Z]\w*\.$", text[: m.start()][-80:]):
+                    return m.group(0)
             return table[m.group(1)]
 
         return own.sub(one, text)

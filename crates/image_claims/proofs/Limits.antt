@@ -109,19 +109,19 @@ module _ {m n : ℕ} (more : m ≤ n) where
   unfolding add
   add_more i name kind content =
       edit_more i (λ g. add_decision m (region_bytes i g) g.align name kind content) (λ g. add_decision n (region_bytes i g) g.align name kind content)
-      (λ g. Decided.add-more more (region_bytes i g) g.align name kind content)
+      (λ g. Decided.add_more more (region_bytes i g) g.align name kind content)
 
   pub replace_more : (i name content : List ℕ)
       → (edit_number (image_replace_up_to m i name content).answer ≡ 13) ⊎ (image_replace_up_to n i name content ≡ image_replace_up_to m i name content)
   unfolding replace
   replace_more i name content =
       edit_more i (λ g. replace_decision m (region_bytes i g) g.align name content) (λ g. replace_decision n (region_bytes i g) g.align name content)
-      (λ g. Decided.replace-more more (region_bytes i g) g.align name content)
+      (λ g. Decided.replace_more more (region_bytes i g) g.align name content)
 
   pub remove_more : (i name : List ℕ) → (edit_number (image_remove_up_to m i name).answer ≡ 13) ⊎ (image_remove_up_to n i name ≡ image_remove_up_to m i name)
   unfolding remove
   remove_more i name = edit_more i (λ g. remove_decision m (region_bytes i g) g.align name) (λ g. remove_decision n (region_bytes i g) g.align name)
-      (λ g. Decided.remove-more more (region_bytes i g) g.align name)
+      (λ g. Decided.remove_more more (region_bytes i g) g.align name)
 
   -- So what was done is done now, with the same answer and the same bytes.
 

@@ -97,13 +97,13 @@ module _ (i : List ℕ) (p : ℕ) where
   -- A number to step from lies in the region or at its end, and the part from there on is the judged one.
   from_place_lem : master i ≡ Read (region i) → is_step_start (region i) p ≡ true → from_place i (region i) p ≡ judged
   unfolding from_place
-  from_place_lem e q = let f = Numbers.fit-from (region i) p q in rw q (place_part i (region i) e p f.0 f.1)
+  from_place_lem e q = let f = Numbers.fit_from (region i) p q in rw q (place_part i (region i) e p f.0 f.1)
 
   pub parts_given : (n : ℕ) → StandsAt i p n → PartsGiven i p n
   parts_given n a =
       let e = is_read a.not_refused in
       let q = fits e (is_step_start (region i) p) refl in
-      let f = Numbers.fit-from (region i) p q in
+      let f = Numbers.fit_from (region i) p q in
       let j : judge (from_place i (region i) p) ≡ some (component judged n) = rw (from_place_lem e q) (judge_words judged n a.header) in
       given i (region i) e p f.0 f.1 n a.header (rw (e, j)) (rw (e, j))
     where

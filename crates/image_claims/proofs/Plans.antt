@@ -45,18 +45,18 @@ module _ (i name : List ℕ) where
   pub stage_accepted : (image_stage i name).number ≡ 0 → (t : Taken) × (guarded_find i name ≡ At t) × AcceptedStage i (guarded_content i name) t (image_stage i name)
   stage_accepted h =
       let (g, e) = read_plan Stage.number refused_stage (λ r. refl) i (λ g. stage_in i g name) h in
-      rw e (Stage.stage-accepted i g name (rw e at h))
+      rw e (Stage.stage_accepted i g name (rw e at h))
 
   pub payload_accepted : (image_payload i name).number ≡ 0
       → (t : Taken) × (guarded_find i name ≡ At t) × AcceptedPayload i (guarded_content i name) t (image_payload i name)
   payload_accepted h =
-      let (g, e) = read_plan Payload.number refused_payload Payload.refused-number i (λ g. payload_in i g name) h in
-      rw e (Payload.payload-accepted i g name (rw e at h))
+      let (g, e) = read_plan Payload.number refused_payload Payload.refused_number i (λ g. payload_in i g name) h in
+      rw e (Payload.payload_accepted i g name (rw e at h))
 
   -- A refusal has its number, reports place 0, and is zero otherwise.
 
   pub stage_refused : ((image_stage i name).number ≡ 0 → ⊥) → image_stage i name ≡ refused_stage (refusal_by (image_stage i name).number)
-  stage_refused = refusal_zero Stage.number refused_stage (λ r. refl) i (λ g. stage_in i g name) (λ g. Stage.stage-refused i g name)
+  stage_refused = refusal_zero Stage.number refused_stage (λ r. refl) i (λ g. stage_in i g name) (λ g. Stage.stage_refused i g name)
 
   pub payload_refused : ((image_payload i name).number ≡ 0 → ⊥) → image_payload i name ≡ refused_payload (refusal_by (image_payload i name).number)
-  payload_refused = refusal_zero Payload.number refused_payload Payload.refused-number i (λ g. payload_in i g name) (λ g. Payload.payload-refused i g name)
+  payload_refused = refusal_zero Payload.number refused_payload Payload.refused_number i (λ g. payload_in i g name) (λ g. Payload.payload_refused i g name)

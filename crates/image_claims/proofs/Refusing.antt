@@ -107,7 +107,7 @@ module _ (i : List ℕ) where
     nine e = said unfit (λ c. there c (dec_lt n g.start) (dec_lt g.end n)) (λ c. back c (dec_lt n g.start) (dec_lt g.end n))
       where
         same : g.start ≤ n → (n - g.start) % a ≡ n % a
-        same h = Numbers.same-places a g.start n (known i g e).whole h
+        same h = Numbers.same_places a g.start n (known i g e).whole h
 
         there : Unfit → Dec (n < g.start) → Dec (g.end < n) → NotStepStart i n
         there c (yes l) h = inl l

@@ -40,7 +40,7 @@ module _ (i : List ℕ) (g : Region) (read : master i ≡ Read g) where
 
   listing_is_steps : (w : Bool) → Walked (image_step w i) g.start (map (taken_in i g) (region_listing w i g))
   listing_is_steps w = subst (λ (m : Master). Walked (λ n. step_on m (λ h. step_in w i h n)) g.start (map (taken_in i g) (region_listing w i g))) (sym read)
-      (Listing.listing-walked w i g (omega (arith, facts.least)) facts.forward facts.inside)
+      (Listing.listing_walked w i g (omega (arith, facts.least)) facts.forward facts.inside)
 
   -- The plain listing is the plain steps from offset to none left, each next one from the number that the last one gave.
   pub plain_listing_is_steps : Walked (plain_step i) g.start (map (taken_in i g) (plain_listing (region_bytes i g) g.align))
@@ -82,7 +82,7 @@ module _ (i : List ℕ) (g : Region) (read : master i ≡ Read g) where
 
   -- Places, counted from the region's start, are document 01's multiples of align in the region.
   pub places_are_multiples : (p : ℕ) → p < g.end → (is_step_start g p ≡ true) ↔ ((g.start ≤ p) × (p % g.align ≡ 0))
-  places_are_multiples p h = Numbers.places-are-multiples g p facts.whole h
+  places_are_multiples p h = Numbers.places_are_multiples g p facts.whole h
 
   -- align is a power of two, and the rounding to places is to its first multiple at or after a number.
   pub rounds_to_places : (k : ℕ) × (g.align ≡ 2 ^ k) × ((n : ℕ) → Rounded g.align n (place_count_below g.align n * g.align))
@@ -106,4 +106,4 @@ module _ (i : List ℕ) (g : Region) (read : master i ≡ Read g) where
               multiple = let (k, e) = v.at in rw (add-sub_cancel_left g.start t.place, e) (mul-mod_left k g.align)
 
               fits : is_step_start g (g.start + t.place) ≡ true
-              fits = sym (Numbers.fit-place g (g.start + t.place) (omega arith) (omega (arith, short)) (λ q. omega (arith, short))) ∙ eq-eqb _ 0 multiple
+              fits = sym (Numbers.fit_place g (g.start + t.place) (omega arith) (omega (arith, short)) (λ q. omega (arith, short))) ∙ eq-eqb _ 0 multiple

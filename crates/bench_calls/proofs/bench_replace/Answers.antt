@@ -1,0 +1,19 @@
+use mathlib.Core.Path.{refl, sym, ap, ◌∙◌}
+use Rattle.bench_calls.specs.Calls.{encoded_edit}
+use Rattle.bench_calls.proofs.Refusing.{replace_small}
+use borrow.Author.Rules.{rules}
+use Rattle.bench_calls.proofs.bench_replace.Goals as goal
+
+-- an edit's refusal reports a place of the image
+pub encoded_edit-requires : goal.encoded_edit-requires
+encoded_edit-requires c r e =
+    let a = c.args in
+    replace_small a.image.now a.name.now a.content.now r (sym c.replace-e.ensures.value ∙ e)
+
+pub returns-clause-value : goal.returns-clause-value
+returns-clause-value c =
+    c.encoded_edit.ensures ∙ ap encoded_edit c.replace-e.ensures.value
+
+pub returns-clause-bytes : goal.returns-clause-bytes
+returns-clause-bytes c =
+    c.replace-e.ensures.bytes
