@@ -2,6 +2,7 @@
 // Each answers one number, for any bytes.
 // A count, a length or a place stands in the lower 32 bits. A refusal has its number in the upper 32, and the place that it reports in the lower.
 #![tactic(auto)]
+
 ghost use Rattle.std.specs.Prelude.{◌≡◌, ◌%◌, ◌<◌};
 ghost use Rattle.component.specs.Sums.{total};
 ghost use Rattle.cbfs_types.specs.declared.Refusal.{Refusal};

@@ -1,6 +1,7 @@
 // The public interface: every call over a whole lent image, and the types of their answers, under one name.
 // The calls and their contracts stand in the crates that are named here, the types in `cbfs_types`.
 #![tactic(auto)]
+
 pub use cbfs_types::{
     Directory, Edited, Found, Header, Master, PayloadPlan, Refusal, Region, Segment, StagePlan,
     Step, Taken,

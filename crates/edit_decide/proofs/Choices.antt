@@ -22,7 +22,6 @@ use Rattle.region.specs.Region.{region_bytes, refusal_by}
 use Rattle.cbfs_types.specs.declared.Region.{Region}
 use Rattle.cbfs_types.specs.declared.Refusal.{Refusal}
 use Rattle.strict_rules.specs.Strict.{component_limit, Accepted, Verdict, check_refused, check_accepted, component_places, verdict}
-use Rattle.strict_rules.specs.Slots.{first_start}
 use Rattle.strict_check.specs.StrictCheck.{check_summary, stored_places, has_name}
 use Rattle.strict_check.specs.declared.CheckSummary.{CheckSummary}
 use Rattle.strict_check.proofs.Answers.{check_into_fine}

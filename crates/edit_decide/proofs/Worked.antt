@@ -2,7 +2,7 @@
 -- on none do.
 use Prim.Native.Nat.{ℕ}
 use mathlib.Core.Path.{◌≡◌, refl}
-use mathlib.Core.List.{List, [], ◌∷◌}
+use mathlib.Core.List.{[], ◌∷◌}
 use Rattle.walk.specs.Walk.{place_count_below, magic_at, seek, next_magic}
 use Rattle.edit_rules.specs.Edit.{header_bytes}
 use Rattle.component.proofs.Opened.{judge_definitions}

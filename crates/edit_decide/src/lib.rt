@@ -1,6 +1,7 @@
 // The decisions of add, replace and remove over an image and a region (document 01, "Edits"; refusals 10 to 17). A decision reads the image,
 // and answers the slot to write, or the refusal.
 #![tactic(auto)]
+
 ghost use Rattle.std.specs.Prelude.{◌≡◌, ℕ, ◌+◌, ◌≤◌, length, ltb};
 ghost use Rattle.walk.specs.Walk.{next_magic};
 ghost use Rattle.region.specs.Region.{refusal_by};

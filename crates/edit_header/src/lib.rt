@@ -1,5 +1,6 @@
 // The header of a component that is to be written, with its sum (document 01, "Edits"; document 02, request 5).
 #![tactic(auto)]
+
 ghost use Rattle.std.specs.Prelude.{◌≡◌, ◌≤◌, length};
 ghost use Rattle.bytes_read.specs.Number.{be_bytes};
 ghost use Rattle.bytes_read.specs.Bytes.{splice};

@@ -1,5 +1,5 @@
 -- Document 01's bench cases of edits, computed: bench image A's region is accepted and listed once, and each case goes from there.
-use Prim.Native.Nat.{ℕ, ◌+◌}
+use Prim.Native.Nat.{ℕ}
 use mathlib.Core.Path.{◌≡◌, refl, ap, ◌∙◌}
 use mathlib.Core.List.{List, [], ◌∷◌, ◌++◌}
 use lib.ListN.{length, replicate}

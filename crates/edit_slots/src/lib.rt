@@ -2,6 +2,7 @@
 // used (document 01, "Edits"). All follow from the places of the region's components, which the strict check has stored, and from the headers
 // there: the region is not searched again.
 #![tactic(auto)]
+
 ghost use Rattle.std.specs.Prelude.{◌≡◌, [], ◌∷◌, get_or};
 ghost use Rattle.bytes_read.specs.Lists.{any};
 ghost use Rattle.edit_rules.specs.Edit.{offset_for, run_fits, lowest_fitting};

@@ -1,6 +1,7 @@
 // Edits of a lent image: add, replace and remove (document 01, "Edits"). An edit is a decision, which the crate `edit_decide` makes, and a write, which
 // is lent the slot alone.
 #![tactic(auto)]
+
 ghost use Rattle.std.specs.Prelude.{◌≡◌, ◌+◌, ◌-◌, ◌≤◌, length, replicate};
 ghost use Rattle.bytes_read.specs.Bytes.{splice};
 ghost use Rattle.edit_rules.specs.Edit.{offset_for};

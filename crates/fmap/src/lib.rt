@@ -1,6 +1,7 @@
 // The flash map reader (document 01, "Flash map"): the map at a place, judged against a length; and the reader, which joins it with the
 // signatures of the crate `fmap_signature`.
 #![tactic(auto)]
+
 use cbfs_types::{AREAS_MAX, FMAP_AREA_LEN, FMAP_HEADER_LEN, FMAP_VER_MAJOR};
 
 // The types of the answers, and the signatures by themselves, as a part of the reader.

@@ -2,6 +2,7 @@
 // area or two.
 // Ends of areas are compared by differences, so that no numbers overflow.
 #![tactic(auto)]
+
 ghost use Rattle.std.specs.Prelude.{◌≡◌, length, leb};
 ghost use Rattle.region.specs.Refusals.{first_failed};
 ghost use Rattle.fmap_area.specs.Names.{area_name_of, area_name_at};

@@ -1,5 +1,6 @@
 // The signatures of flash maps in a run of bytes (document 01, "Flash map"): at multiples of 64.
 #![tactic(auto)]
+
 ghost use Rattle.std.specs.Prelude.{◌≡◌, length};
 ghost use Rattle.fmap_signature.specs.Signatures.{has_signature, signatures as signaturesOf, signatures_from, first_or, signature_answer};
 

@@ -19,7 +19,7 @@ use Rattle.cbfs_types.specs.declared.Master.TheVariants.{Read}
 use Rattle.master_header.proofs.Facts.{Known, known, same_region}
 use Rattle.strict_rules.specs.Strict.{component_limit, Accepted}
 use Rattle.bytes_read.proofs.Tested.{both_true}
-use Rattle.strict_rules.specs.Slots.{first_start, in_slots_of, in_slots}
+use Rattle.strict_rules.specs.Slots.{in_slots_of, in_slots}
 use Rattle.edit_rules.specs.Edit.{AllBytes, BytesAt, span_bytes, insert_entry, replace_entry, remove_entry, add, replace, remove}
 use Rattle.edit_rules.proofs.Outcomes.{Finds, Others, Added, Replaced, Removed}
 use Rattle.edit_rules.proofs.Theorems.{add_accepted, add_done}

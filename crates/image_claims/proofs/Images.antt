@@ -12,7 +12,7 @@ use lib.ListN.{length, get_or, drop, length-take, length-drop, get_or-eq_default
 use lib.Seq.{get_or-take, get_or-drop}
 use borrow.Author.Tests.{le-leb, lt-ltb}
 use Rattle.bytes_read.specs.Lists.{any, filter}
-use Rattle.walk.specs.Walk.{Entry, next_place, listing}
+use Rattle.walk.specs.Walk.{Entry, next_place}
 use Rattle.walk_lookup.specs.Lookup.{lookup_refused, lookup_gives, lookup_of}
 use Rattle.strict_rules.specs.Slots.{in_slots}
 use Rattle.region.specs.Region.{region_bytes}

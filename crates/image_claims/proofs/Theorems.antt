@@ -10,7 +10,7 @@ use lib.ListN.{drop}
 use borrow.Author.Tests.{eq-eqb}
 use Rattle.component.specs.Names.{name_fits}
 use Rattle.component.proofs.Judging.{judge_name}
-use Rattle.walk.specs.Walk.{Entry, place_count_below, listing, plain_listing, guarded_listing, Rounded}
+use Rattle.walk.specs.Walk.{Entry, place_count_below, plain_listing, guarded_listing, Rounded}
 use Rattle.cbfs_types.specs.declared.Taken.{Taken}
 use Rattle.walk.proofs.Members.{Given, given}
 use Rattle.walk.proofs.Rounding.{rounded}

@@ -1,5 +1,6 @@
 // The edits of a whole lent image, by its master header. No call asks anything of its caller. `cbfs` re-exports them.
 #![tactic(auto)]
+
 ghost use Rattle.std.specs.Prelude.{◌≡◌};
 ghost use Rattle.image_edit.specs.ImageEdit.{image_add, image_replace, image_remove};
 

@@ -1,6 +1,7 @@
 // The calls that find a component of a whole lent image, by its master header: by its name, or by its place. No call asks anything of its caller. `cbfs`
 // re-exports them.
 #![tactic(auto)]
+
 ghost use Rattle.std.specs.Prelude.{◌≡◌};
 ghost use Rattle.image_find.specs.ImageFind.{image_find, plain_find, guarded_find, image_content, plain_content, guarded_content, name_at, content_at};
 

@@ -1,6 +1,7 @@
 // The calls that walk over a whole lent image, by its master header: the region, the steps and the strict check. No call asks anything of its caller. `cbfs`
 // re-exports them.
 #![tactic(auto)]
+
 ghost use Rattle.std.specs.Prelude.{◌≡◌};
 ghost use Rattle.master_header.specs.Master.{master as masterOf};
 ghost use Rattle.image_walk.specs.ImageWalk.{image_step, plain_step, guarded_step, strict_check};

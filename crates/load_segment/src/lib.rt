@@ -1,6 +1,7 @@
 // What stage plans and payload plans share: tests 22 to 26 of what is loaded, a `Segment` (document 01, "Load plans" and "Refusal numbers").
 // Every function takes any numbers.
 #![tactic(auto)]
+
 ghost use Rattle.std.specs.Prelude.{◌≡◌};
 ghost use Rattle.region.specs.Refusals.{first_failed};
 ghost use Rattle.load_segment.specs.LoadSegment.{source_fits, len_fits, target_fits, load_tests, disjoint_targets};

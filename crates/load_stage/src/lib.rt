@@ -1,6 +1,7 @@
 // Stage plans over an image and a region (document 01, "Load plans").
 // A name is taken by the guarded lookup. A plan comes by value; a refusal has its number and its place, and is zero otherwise.
 #![tactic(auto)]
+
 ghost use Rattle.std.specs.Prelude.{◌≡◌, ◌+◌, ◌≤◌, ◌<◌, ◌^◌, length};
 ghost use Rattle.bytes_read.specs.Bytes.{part_of};
 ghost use Rattle.region.specs.Refusals.{first_failed};

@@ -1,5 +1,6 @@
 // The master header: which region an image has, or refusals 1 to 8 (document 01, "Master header").
 #![tactic(auto)]
+
 ghost use Rattle.std.specs.Prelude.{◌≡◌, true, ◌+◌, ◌-◌, ◌≤◌, length};
 ghost use Rattle.master_header.specs.Master.{address as address_of, header_at, field as field_of, address_fits, bootblock_fits, align_fits, offset_fits};
 ghost use Rattle.master_header.specs.Master.{romsize, bootblocksize, align as align_of, offset as offset_of, refusal_number, master};

@@ -1,6 +1,7 @@
 // Text gathered on a lent page, of which the first `used` bytes are in use: bytes as they are, bytes in hexadecimal, and a component's type.
 // Every function takes any page and any numbers: text that does not fit is not written, and not counted.
 #![tactic(auto)]
+
 ghost use Rattle.std.specs.Prelude.{◌≡◌, ◌<◌, ◌*◌, ◌%◌, length};
 ghost use Rattle.bytes_read.specs.Bytes.{written};
 ghost use Rattle.program_text.specs.Page.{used_after};

@@ -1,6 +1,7 @@
 // The calls over an image and a region of it, by value: places counted from the image's start, and refusals 9, 10 and 11.
 // Every function takes any image and any numbers; a region that does not fit the image is empty.
 #![tactic(auto)]
+
 ghost use Rattle.std.specs.Prelude.{◌≡◌, ◌+◌, ◌≤◌, drop};
 ghost use Rattle.region_read.specs.RegionRead.{is_step_start, step_in, find_in, content_found_in, from_place, name_at_in, content_at_in};
 ghost use Rattle.bytes_read.specs.Bytes.{part_of};

@@ -1,5 +1,6 @@
 // The strict check and its directory (document 01, "Components and the two walks"; refusals 12, 13 and 11).
 #![tactic(auto)]
+
 ghost use Rattle.std.specs.Prelude.{◌≡◌, ◌++◌, map, true, ℕ, ◌+◌, ◌-◌, ◌*◌, ◌≤◌, ◌<◌, length, take, drop, get_or, set, replicate, eqb};
 ghost use Rattle.bytes_read.specs.Lists.{any};
 ghost use Rattle.region.specs.Region.{region_bytes};

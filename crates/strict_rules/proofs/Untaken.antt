@@ -4,7 +4,7 @@ use Prim.Native.Nat.{ℕ, suc, ◌+◌, ◌-◌, ◌≤◌, ◌<◌, min}
 use native.Mathlib.Nat.{sub-zero}
 use native.Mathlib.Omega.{arith}
 use native.Mathlib.Decide.{dec_le, dec_lt}
-use mathlib.Core.Path.{◌≡◌, refl, sym, ap, ◌∙◌}
+use mathlib.Core.Path.{◌≡◌, refl, ap, ◌∙◌}
 use mathlib.Core.List.{List, [], ◌∷◌, Memᴰ}
 use mathlib.Core.Logic.{inl}
 use mathlib.Core.Bool.{Bool, true, false}
@@ -17,7 +17,7 @@ use Rattle.walk.specs.Walk.{Entry, place_count_below, places, magic_at, next_mag
 use Rattle.walk.proofs.Places.{no_places, below_next, below_end, below_unique, mem_places}
 use Rattle.walk.proofs.Searching.{next_end, next_here, next_not, next_above, next_has_magic, by_places, over_no_magic, no_magic_all}
 use Rattle.walk.proofs.Steps.{Listed, mem_steps, next_place_end, next_place_far, rest_none, rest_some, rest_same, step_here, step-next}
-use Rattle.walk.proofs.Stepping.{searched, pick_fits, step_no_places, step_past}
+use Rattle.walk.proofs.Stepping.{searched, pick_fits, step_past}
 use Rattle.walk.proofs.Picks.{plain_fits}
 use Rattle.strict_rules.specs.Strict.{lists_place, is_untaken, untaken_places}
 use Rattle.bytes_read.proofs.Tested.{filter_same}

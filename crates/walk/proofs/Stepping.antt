@@ -8,14 +8,13 @@ use mathlib.Core.List.{List}
 use mathlib.Core.Bool.{Bool, true, false, cond, true≢false}
 use mathlib.Core.Option.{Option, some, none, some-injective, none-ne-some, some-ne-none}
 use lib.ListN.{length, take, drop, length-drop}
-use lib.Dec.{ltb}
 use borrow.Author.Tests.{lt-ltb, le-ltb, ltb-false}
 use Rattle.component.specs.Sums.{checksum_matches}
 use Rattle.component.specs.Component.{Component, span_length, judge_numbers, judge_skipping_sum, judge, judged, header_of}
 use Rattle.cbfs_types.specs.declared.Header.{Header}
 use Rattle.component.specs.declared.Judged.{Judged}
 use Rattle.component.specs.declared.Judged.TheVariants.{WellFormed, IllFormed}
-use Rattle.component.proofs.Judging.{judge-fits, judge_fields, judged_some, judged_none, header_summed, unsummed_numbers, unsummed_no_magic, unsummed_magic}
+use Rattle.component.proofs.Judging.{judge-fits, judge_fields, judged_some, judged_none, header_summed, unsummed_numbers, unsummed_no_magic}
 use Rattle.component.proofs.Judging.{unsummed_fits_region, summed_of, judge_unsummed}
 use Rattle.bytes_read.proofs.Splice.{rest}
 use Rattle.walk.specs.Walk.{Pick, Entry, place_count_below, magic_at, next_magic, magic_inside, plain_pick, unless, guarded_pick, pick_of, pick_skipping_sum}

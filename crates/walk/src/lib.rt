@@ -1,6 +1,7 @@
 // The walks over a region's bytes: the search for the magic and a step (document 01, "Components and the two walks").
 // A region is a run of bytes; places are multiples of the alignment, counted from its start. An alignment of 0 has no places.
 #![tactic(auto)]
+
 ghost use Rattle.std.specs.Prelude.{◌≡◌, true, cond, ◌+◌, ◌≤◌, ◌<◌, length};
 ghost use Rattle.walk.specs.Walk.{next_magic, next_place, step as step_of, step_answer, pick_skipping_sum, pick_of, pick_with_sum_if};
 ghost use Rattle.component.specs.Sums.{checksum_matches};

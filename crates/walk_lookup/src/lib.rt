@@ -1,5 +1,6 @@
 // Lookups by name over a region's bytes (document 01, "Components and the two walks"). Any bytes may be asked for.
 #![tactic(auto)]
+
 ghost use Rattle.std.specs.Prelude.{◌≡◌, ◌+◌, ◌≤◌, length};
 ghost use Rattle.walk.specs.Walk.{step_answer, PlaceOrPastEnd};
 ghost use Rattle.walk_lookup.specs.Lookup.{plain_bearers, guarded_bearers, first_of, bears_at, bears_with_sum_at, plain_lookup, guarded_lookup, lookup_of};

@@ -1,6 +1,5 @@
-use mathlib.Core.Path.{refl, ap}
+use mathlib.Core.Path.{ap}
 use lib.ListN.{length}
-use borrow.Author.Rules.{rules}
 use Rattle.bench_calls.proofs.bench_area_name.Goals as goal
 
 pub returns-clause-value : goal.returns-clause-value

@@ -1,6 +1,5 @@
-use mathlib.Core.Path.{refl, ap, ◌∙◌}
+use mathlib.Core.Path.{ap, ◌∙◌}
 use Rattle.bench_calls.specs.Calls.{map_count}
-use borrow.Author.Rules.{rules}
 use Rattle.bench_calls.proofs.bench_fmap.Goals as goal
 
 pub returns-clause-value : goal.returns-clause-value

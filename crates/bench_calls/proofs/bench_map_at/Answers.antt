@@ -1,8 +1,7 @@
-use mathlib.Core.Path.{refl, sym, ap, ◌∙◌}
+use mathlib.Core.Path.{sym, ap, ◌∙◌}
 use borrow.Author.Tests.{lt-ltb, le-ltb}
 use Rattle.cbfs_types.specs.declared.FlashMap.{FlashMap}
 use Rattle.bench_calls.specs.Calls.{map_offset}
-use borrow.Author.Rules.{rules}
 use Rattle.bench_calls.proofs.bench_map_at.Goals as goal
 
 pub returns-then-k-lt-AREAS_MAX-clause-value : goal.returns-then-k-lt-AREAS_MAX-clause-value

@@ -1,7 +1,6 @@
 use native.Mathlib.Omega.{arith}
-use mathlib.Core.Path.{refl, sym, ◌∙◌}
+use mathlib.Core.Path.{sym, ◌∙◌}
 use Rattle.bench_calls.proofs.Refusing.{header_place_lem}
-use borrow.Author.Rules.{rules}
 use Rattle.bench_calls.proofs.bench_region.Goals as goal
 
 -- a refusal of the master header reports place 0

@@ -1,7 +1,6 @@
-use mathlib.Core.Path.{refl, sym, ap, ◌∙◌}
+use mathlib.Core.Path.{sym, ap, ◌∙◌}
 use Rattle.bench_calls.specs.Calls.{encoded_edit}
 use Rattle.bench_calls.proofs.Refusing.{remove_small}
-use borrow.Author.Rules.{rules}
 use Rattle.bench_calls.proofs.bench_remove.Goals as goal
 
 -- an edit's refusal reports a place of the image

@@ -1,8 +1,7 @@
-use mathlib.Core.Path.{refl, sym, ap, ◌∙◌}
+use mathlib.Core.Path.{sym, ap, ◌∙◌}
 use borrow.Author.Tests.{lt-ltb, le-ltb}
 use Rattle.cbfs_types.specs.declared.PayloadPlan.{PayloadPlan}
 use Rattle.bench_calls.specs.Calls.{plan_source}
-use borrow.Author.Rules.{rules}
 use Rattle.bench_calls.proofs.bench_segment.Goals as goal
 
 pub returns-then-k-lt-SEGMENTS_MAX-clause-value : goal.returns-then-k-lt-SEGMENTS_MAX-clause-value

@@ -1,9 +1,8 @@
 use native.Mathlib.Omega.{arith}
-use mathlib.Core.Path.{◌≡◌, refl, sym, ap, ◌∙◌}
+use mathlib.Core.Path.{◌≡◌, sym, ap, ◌∙◌}
 use Rattle.region.specs.Region.{refusal_by}
 use Rattle.cbfs_types.specs.declared.Refusal.{Refusal}
 use Rattle.bench_calls.specs.Calls.{encoded_refusal, signature_number}
-use borrow.Author.Rules.{rules}
 use Rattle.bench_calls.proofs.bench_signatures.Goals as goal
 
 pub encoded_refusal-requires : goal.encoded_refusal-requires

@@ -1,6 +1,5 @@
-use mathlib.Core.Path.{refl, ap, ◌∙◌}
+use mathlib.Core.Path.{ap, ◌∙◌}
 use Rattle.bench_calls.specs.Calls.{plan_binary}
-use borrow.Author.Rules.{rules}
 use Rattle.bench_calls.proofs.bench_stage.Goals as goal
 
 pub returns-clause-value : goal.returns-clause-value

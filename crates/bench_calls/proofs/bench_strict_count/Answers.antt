@@ -1,9 +1,8 @@
 use native.Mathlib.Omega.{arith}
-use mathlib.Core.Path.{refl, ap, ◌∙◌}
+use mathlib.Core.Path.{ap, ◌∙◌}
 use Rattle.cbfs_types.specs.declared.Directory.{Directory}
 use Rattle.bench_calls.specs.Calls.{directory_count}
 use Rattle.bench_calls.proofs.Refusing.{check_small}
-use borrow.Author.Rules.{rules}
 use Rattle.bench_calls.proofs.bench_strict_count.Goals as goal
 
 -- the strict check reports a place of the image

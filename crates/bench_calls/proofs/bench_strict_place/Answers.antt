@@ -1,11 +1,10 @@
 use Prim.Native.Nat.{◌<◌}
 use native.Mathlib.Omega.{arith}
-use mathlib.Core.Path.{refl, sym, ap, ◌∙◌}
+use mathlib.Core.Path.{sym, ap, ◌∙◌}
 use borrow.Author.Tests.{lt-ltb, le-ltb}
 use Rattle.cbfs_types.specs.declared.Directory.{Directory}
 use Rattle.bench_calls.specs.Calls.{directory_place}
 use Rattle.bench_calls.proofs.Refusing.{check_small}
-use borrow.Author.Rules.{rules}
 use Rattle.bench_calls.proofs.bench_strict_place.Goals as goal
 use Rattle.bench_calls.proofs.bench_strict_place.Goals.{After-strict_check-d}
 

@@ -1,7 +1,6 @@
 use native.Mathlib.Omega.{arith}
 use mathlib.Core.Path.{sym, ◌∙◌}
 use Rattle.bench_calls.proofs.Refusing.{header_place_lem}
-use borrow.Author.Rules.{rules}
 use Rattle.bench_calls.proofs.count.Goals as goal
 
 pub count_steps-requires : goal.count_steps-requires

@@ -1,10 +1,9 @@
-use Prim.Native.Nat.{◌+◌, ◌-◌, ◌<◌}
+use Prim.Native.Nat.{◌+◌, ◌<◌}
 use native.Mathlib.Omega.{arith}
 use mathlib.Core.Path.{sym, ◌∙◌}
 use Rattle.region_read.specs.RegionRead.{step_in}
 use Rattle.bench_calls.specs.Calls.{count_of}
 use Rattle.bench_calls.proofs.Stepping.{Counting, count_start, count_on, count_end, count_unrefused, count_few}
-use borrow.Author.Rules.{rules}
 use Rattle.bench_calls.proofs.count_steps.Goals as goal
 use Rattle.bench_calls.proofs.count_steps.Goals.{In-Took}
 

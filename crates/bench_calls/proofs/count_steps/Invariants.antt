@@ -1,10 +1,7 @@
-use Prim.Native.Nat.{◌+◌, ◌-◌, ◌<◌}
-use native.Mathlib.Omega.{arith}
-use mathlib.Core.Path.{sym, ◌∙◌}
+use Prim.Native.Nat.{◌-◌}
 use Rattle.region_read.specs.RegionRead.{step_in}
 use Rattle.bench_calls.specs.Calls.{count_of}
-use Rattle.bench_calls.proofs.Stepping.{Counting, count_start, count_on, count_end, count_unrefused, count_few}
-use borrow.Author.Rules.{rules}
+use Rattle.bench_calls.proofs.Stepping.{Counting}
 use Rattle.bench_calls.proofs.count_steps.Given as goal
 
 -- The loop's invariant: what is counted and what the steps from here on still give make up the listing.

@@ -1,6 +1,5 @@
 use mathlib.Core.Path.{sym, ap, ◌∙◌}
 use Rattle.bench_calls.specs.Calls.{encoded_edit}
-use borrow.Author.Rules.{rules}
 use Rattle.bench_calls.proofs.encoded_edit.Goals as goal
 
 pub encoded_refusal-requires : goal.encoded_refusal-requires

@@ -1,7 +1,6 @@
 use mathlib.Core.Path.{sym, ap, ◌∙◌}
 use Rattle.bench_calls.specs.Calls.{place_number}
 use Rattle.bench_calls.proofs.Refusing.{lookup_small}
-use borrow.Author.Rules.{rules}
 use Rattle.bench_calls.proofs.place.Goals as goal
 
 -- a lookup's refusal reports place 0

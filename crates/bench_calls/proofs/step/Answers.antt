@@ -1,5 +1,4 @@
 use mathlib.Core.Path.{◌∙◌}
-use borrow.Author.Rules.{rules}
 use Rattle.bench_calls.proofs.step.Goals as goal
 
 pub returns-then-guarded : goal.returns-then-guarded

@@ -1,7 +1,6 @@
 use mathlib.Core.Path.{sym, ap, ◌∙◌}
 use Rattle.bench_calls.specs.Calls.{encoded_step}
 use Rattle.bench_calls.proofs.Refusing.{step_small}
-use borrow.Author.Rules.{rules}
 use Rattle.bench_calls.proofs.taken.Goals as goal
 
 -- a step's refusal reports place 0

@@ -1,7 +1,6 @@
 use mathlib.Core.Path.{refl, ap, ◌∙◌}
 use Rattle.edit_decide.specs.Choices.{remove_choice_among}
 use Rattle.edit_decide.proofs.Choices.{slot_by, removed}
-use borrow.Author.Rules.{rules}
 use Rattle.edit_decide.proofs.choose.Goals as goal
 
 pub returns-in-Add : goal.returns-in-Add

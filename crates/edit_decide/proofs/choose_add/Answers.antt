@@ -6,7 +6,6 @@ use mathlib.Core.Bool.{true, false}
 use mathlib.Core.Option.{none}
 use native.Mathlib.Omega.{arith}
 use lib.ListN.{length, length-map}
-use borrow.Author.Tests.{not-true, not-false}
 use Rattle.component.specs.Names.{name_fits}
 use Rattle.bytes_read.specs.Lists.{any}
 use Rattle.walk.specs.Walk.{plain_listing}
@@ -17,7 +16,6 @@ use Rattle.edit_decide.specs.Choices.{choice}
 use Rattle.edit_decide.specs.declared.Choice.TheVariants.{Write, Refuse}
 use Rattle.edit_rules.proofs.Written.{name_fit, field_most, length_span}
 use Rattle.edit_decide.proofs.Choices.{used_by, run_by, long_not_found, run_some, run_none, add_14, add_15, add_13, add_16, add_17, add_write}
-use borrow.Author.Rules.{rules}
 use Rattle.edit_decide.proofs.choose_add.Goals as goal
 use Rattle.edit_decide.proofs.choose_add.Goals.{After-free_run-x, After-name_used, After-offset_for-offset, Else-name_used, Else-not-name_fits, Else-ps-ge-COMPONENTS_MAX, Else-span_contains_magic, Start}
 
@@ -71,21 +69,21 @@ found c = let a = c.args in
 
 pub returns-then-not-name_fits : goal.returns-then-not-name_fits
 returns-then-not-name_fits c =
-    λ s. 
+    λ s.
     let a = c.args in
     c.refuse.ensures ∙ add_14 a.r.now a.align a.name.now a.kind a.content.now s
     (sym c.name_fits.ensures.value ∙ c.if-not-name_fits.true)
 
 pub returns-then-name_used : goal.returns-then-name_used
 returns-then-name_used c =
-    λ s. 
+    λ s.
     let a = c.args in
     let borne = sym (taken (goal.at.returns-then-name_used c).After-name_used) ∙ c.if-name_used.true in
     c.refuse-then-name_used.ensures ∙ add_15 a.r.now a.align a.name.now a.kind a.content.now s (named (goal.at.returns-then-name_used c).Else-not-name_fits) borne
 
 pub returns-then-ps-ge-COMPONENTS_MAX : goal.returns-then-ps-ge-COMPONENTS_MAX
 returns-then-ps-ge-COMPONENTS_MAX c =
-    λ s. 
+    λ s.
     let a = c.args in
     let many : component_limit ≤ length (plain_listing a.r.now a.align) = omega (arith, c.if-ps-ge-COMPONENTS_MAX.true, counted (goal.at.returns-then-ps-ge-COMPONENTS_MAX c).Start) in
     c.refuse-then-ps-ge-COMPONENTS_MAX.ensures ∙ add_13 a.r.now a.align a.name.now a.kind a.content.now s (named (goal.at.returns-then-ps-ge-COMPONENTS_MAX c).Else-not-name_fits) (unused (goal.at.returns-then-ps-ge-COMPONENTS_MAX c).Else-name_used) many
@@ -95,7 +93,7 @@ span_contains_magic-requires c = short (goal.at.span_contains_magic-requires c).
 
 pub returns-then-span_contains_magic : goal.returns-then-span_contains_magic
 returns-then-span_contains_magic c =
-    λ s. 
+    λ s.
     let a = c.args in
     c.refuse-then-span_contains_magic.ensures ∙ add_16 a.r.now a.align a.name.now a.kind a.content.now s (named (goal.at.returns-then-span_contains_magic c).Else-not-name_fits)
     (unused (goal.at.returns-then-span_contains_magic c).Else-name_used) (few (goal.at.returns-then-span_contains_magic c).Else-ps-ge-COMPONENTS_MAX) (sym c.span_contains_magic.ensures ∙ c.if-span_contains_magic.true)
@@ -105,7 +103,7 @@ overflow_sub-offset c = omega (arith, most (goal.at.overflow_sub-offset c).After
 
 pub returns-then-offset-content : goal.returns-then-offset-content
 returns-then-offset-content c =
-    λ s. 
+    λ s.
     let a = c.args in
     c.refuse-then-offset-content.ensures ∙ no_run_fits (goal.at.returns-then-offset-content c).After-offset_for-offset (long_not_found _ (free_runs a.r.now a.align) (omega (arith, spans (goal.at.returns-then-offset-content c).After-offset_for-offset, c.if-offset-content.true, most (goal.at.returns-then-offset-content c).After-offset_for-offset))) s
 
@@ -114,7 +112,7 @@ overflow_add-offset c = omega (arith, most (goal.at.overflow_add-offset c).After
 
 pub returns-in-Found : goal.returns-in-Found
 returns-in-Found c =
-    λ s. 
+    λ s.
     let a = c.args in
     let (x, e, z) = run_some a.kind _ _ (sym (found (goal.at.returns-in-Found c).After-free_run-x) ∙ c.in-Found.is) in
     sym (ap Write z) ∙ add_write a.r.now a.align a.name.now a.kind a.content.now s (named (goal.at.returns-in-Found c).Else-not-name_fits)
@@ -122,6 +120,6 @@ returns-in-Found c =
 
 pub returns-in-NotFound : goal.returns-in-NotFound
 returns-in-NotFound c =
-    λ s. 
+    λ s.
     let a = c.args in
     c.refuse-in-NotFound.ensures ∙ no_run_fits (goal.at.returns-in-NotFound c).After-offset_for-offset (run_none a.kind _ (sym (found (goal.at.returns-in-NotFound c).After-free_run-x) ∙ c.in-NotFound.is)) s

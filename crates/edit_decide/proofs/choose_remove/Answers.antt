@@ -1,6 +1,5 @@
 use mathlib.Core.Path.{sym, ap, ◌∙◌}
 use Rattle.edit_decide.specs.Choices.{remove_choice_among}
-use borrow.Author.Rules.{rules}
 use Rattle.edit_decide.proofs.choose_remove.Goals as goal
 
 pub returns-in-Found : goal.returns-in-Found

@@ -3,14 +3,12 @@ use mathlib.Core.Path.{◌≡◌, sym, ap, ◌∙◌}
 use mathlib.Core.Bool.{false}
 use native.Mathlib.Omega.{arith}
 use lib.ListN.{length}
-use borrow.Author.Tests.{not-true, not-false}
 use Rattle.walk.specs.Walk.{plain_listing}
 use Rattle.edit_rules.specs.Edit.{span_bytes, contains_magic, run_fits, slot_of}
 use Rattle.edit_slots.specs.SlotsByPlaces.{run, slot_answer}
 use Rattle.edit_slots.specs.declared.SlotSearch.TheVariants.{Found}
 use Rattle.edit_rules.proofs.Written.{field_most, length_span}
 use Rattle.edit_decide.proofs.Choices.{slot_by, replace_10, replace_16, replace_17, replace_write, run_short, long_not_fits}
-use borrow.Author.Rules.{rules}
 use Rattle.edit_decide.proofs.choose_replace.Goals as goal
 use Rattle.edit_decide.proofs.choose_replace.Goals.{After-offset_for-offset, After-run_fits, After-slot_among-x, Else-span_contains_magic, In-Found}
 
@@ -51,7 +49,7 @@ span_contains_magic-requires c = short (goal.at.span_contains_magic-requires c).
 
 pub returns-then-span_contains_magic : goal.returns-then-span_contains_magic
 returns-then-span_contains_magic c =
-    λ s k. 
+    λ s k.
     let a = c.args in
     c.refuse-then-span_contains_magic.ensures ∙ replace_16 s _ a.align a.name.now a.content.now _ (within (goal.at.returns-then-span_contains_magic c).In-Found)
     (sym c.span_contains_magic.ensures ∙ c.if-span_contains_magic.true)
@@ -61,7 +59,7 @@ overflow_sub-offset c = omega (arith, most (goal.at.overflow_sub-offset c).After
 
 pub returns-then-offset-content : goal.returns-then-offset-content
 returns-then-offset-content c =
-    λ s k. 
+    λ s k.
     let a = c.args in
     c.refuse-then-offset-content.ensures ∙ replace_17 s _ a.align a.name.now a.content.now _ (within (goal.at.returns-then-offset-content c).In-Found) (clean (goal.at.returns-then-offset-content c).Else-span_contains_magic)
     (long_not_fits (length (span_bytes a.name.now c.in-Found.z.kind a.content.now)) _
@@ -72,19 +70,19 @@ overflow_add-offset c = omega (arith, most (goal.at.overflow_add-offset c).After
 
 pub returns-then-not-run_fits : goal.returns-then-not-run_fits
 returns-then-not-run_fits c =
-    λ s k. 
+    λ s k.
     let a = c.args in
     c.refuse-then-not-run_fits.ensures ∙ replace_17 s _ a.align a.name.now a.content.now _ (within (goal.at.returns-then-not-run_fits c).In-Found) (clean (goal.at.returns-then-not-run_fits c).Else-span_contains_magic)
     (sym (held (goal.at.returns-then-not-run_fits c).After-run_fits) ∙ c.if-not-run_fits.true)
 
 pub returns-in-NotFound : goal.returns-in-NotFound
 returns-in-NotFound c =
-    λ s k. 
+    λ s k.
     let a = c.args in
     c.refuse.ensures ∙ replace_10 s _ a.align a.name.now a.content.now (sym (slot (goal.at.returns-in-NotFound c).After-slot_among-x) ∙ c.in-NotFound.is)
 
 pub returns-else-not-run_fits : goal.returns-else-not-run_fits
 returns-else-not-run_fits c =
-    λ s k. 
+    λ s k.
     let a = c.args in
     replace_write s _ a.align a.name.now a.content.now _ (within (goal.at.returns-else-not-run_fits c).In-Found) (clean (goal.at.returns-else-not-run_fits c).Else-span_contains_magic) (sym (held (goal.at.returns-else-not-run_fits c).After-run_fits) ∙ c.if-not-run_fits.false)

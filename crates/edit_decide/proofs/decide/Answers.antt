@@ -8,7 +8,6 @@ use Rattle.edit_rules.specs.Edit.{Decision, after_check}
 use Rattle.edit_decide.specs.Choices.{ListedPlaces, accepted_decision, kind_for, choice, choice_of, decided}
 use Rattle.edit_decide.specs.declared.Choice.{Choice}
 use Rattle.edit_decide.proofs.Choices.{decided_so, checked_refused, checked_fine, checked_fits, checked_places}
-use borrow.Author.Rules.{rules}
 use Rattle.edit_decide.proofs.decide.Goals as goal
 use Rattle.edit_decide.proofs.decide.Goals.{After-struct_known-1, Else-d-ne0}
 
@@ -44,7 +43,7 @@ slice_bounds-choose-end c =
     checked_fits (region (goal.at.slice_bounds-choose-end c).After-struct_known-1) a.region.align a.region.start (kind (goal.at.slice_bounds-choose-end c).After-struct_known-1) (own (goal.at.slice_bounds-choose-end c).After-struct_known-1) c.check_into-d.result c.check_into-d.ensures.value c.if-d-ne0.false (replicate 1024 0) c.check_into-d.ensures.stored
 
 -- the places that were stored are those of the components
-directed : (c : Else-d-ne0) → 
+directed : (c : Else-d-ne0) →
     ListedPlaces (region (goal.at.Else-d-ne0 c).After-struct_known-1) c.args.region.align (lent (goal.at.Else-d-ne0 c).After-struct_known-1)
 directed c =
     let a = c.args in

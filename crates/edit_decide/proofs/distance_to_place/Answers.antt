@@ -1,7 +1,6 @@
 use native.Mathlib.Nat.{mod-lt}
 use native.Mathlib.Omega.{arith}
 use Rattle.edit_decide.proofs.ContainsMagic.{distance_none, distance_at_place, distance_between}
-use borrow.Author.Rules.{rules}
 use Rattle.edit_decide.proofs.distance_to_place.Goals as goal
 
 pub returns-then-align-eq0 : goal.returns-then-align-eq0

@@ -3,7 +3,6 @@ use mathlib.Core.Path.{ap, ◌∙◌}
 use mathlib.Core.List.{List}
 use lib.Dec.{ltb}
 use Rattle.walk.specs.Walk.{next_magic}
-use borrow.Author.Rules.{rules}
 use Rattle.edit_decide.proofs.header_contains_magic.Goals as goal
 
 pub returns : goal.returns

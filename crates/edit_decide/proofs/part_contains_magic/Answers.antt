@@ -1,4 +1,3 @@
-use borrow.Author.Rules.{rules}
 use Rattle.edit_decide.proofs.part_contains_magic.Goals as goal
 
 pub returns : goal.returns

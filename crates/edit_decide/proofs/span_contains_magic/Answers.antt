@@ -10,7 +10,6 @@ use Rattle.edit_decide.specs.Choices.{distance_to_place}
 use Rattle.edit_rules.specs.Edit.{offset_for, contains_magic, header_for, span_bytes}
 use Rattle.edit_decide.proofs.ContainsMagic.{contains_none, contains_in_name, contains_in_content, contains_in_header, header_without_magic, none_found}
 use Rattle.edit_decide.proofs.ContainsMagic.{contains_not}
-use borrow.Author.Rules.{rules}
 use Rattle.edit_decide.proofs.span_contains_magic.Goals as goal
 use Rattle.edit_decide.proofs.span_contains_magic.Goals.{After-header_contains_magic, After-part_contains_magic, After-part_contains_magic-2, Else-part_contains_magic-2}
 

@@ -1,6 +1,5 @@
 use native.Mathlib.Omega.{arith}
 use Rattle.edit_header.proofs.Headers.{byte_sum_is}
-use borrow.Author.Rules.{rules}
 use Rattle.edit_header.proofs.byte_sum.Goals as goal
 
 pub returns : goal.returns

@@ -1,5 +1,4 @@
 use Rattle.edit_header.proofs.Headers.{low_bytes}
-use borrow.Author.Rules.{rules}
 use Rattle.edit_header.proofs.field32.Goals as goal
 
 pub returns : goal.returns

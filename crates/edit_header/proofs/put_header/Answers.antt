@@ -5,7 +5,6 @@ use Rattle.bytes_read.specs.Number.{be_bytes}
 use Rattle.bytes_read.proofs.Numbers.{length-be_bytes}
 use Rattle.component.specs.Component.{magic}
 use Rattle.edit_header.proofs.Headers.{begun, more, header_parts}
-use borrow.Author.Rules.{rules}
 use Rattle.edit_header.proofs.put_header.Goals as goal
 
 pub returns : goal.returns

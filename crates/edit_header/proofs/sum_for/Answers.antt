@@ -3,7 +3,6 @@ use mathlib.Core.Path.{ap, ◌∙◌}
 use Rattle.bytes_read.specs.Number.{be_bytes}
 use Rattle.component.specs.Sums.{total}
 use Rattle.edit_header.proofs.Headers.{sum_by}
-use borrow.Author.Rules.{rules}
 use Rattle.edit_header.proofs.sum_for.Goals as goal
 
 pub overflow_add-head : goal.overflow_add-head

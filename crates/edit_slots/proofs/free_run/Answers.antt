@@ -1,4 +1,4 @@
-use Prim.Native.Nat.{ℕ, ◌+◌, ◌-◌, ◌<◌}
+use Prim.Native.Nat.{ℕ, ◌+◌, ◌<◌}
 use mathlib.Core.Path.{◌≡◌, refl, sym, ap, ◌∙◌}
 use mathlib.Core.List.{[], ◌∷◌}
 use lib.ListN.{length, drop}
@@ -6,7 +6,6 @@ use Rattle.walk.specs.Walk.{next_place}
 use Rattle.edit_rules.specs.Edit.{lowest_fitting}
 use Rattle.edit_slots.specs.SlotsByPlaces.{run, free_run_answer, runs_between}
 use Rattle.edit_slots.proofs.SlotsByPlaces.{runs_end, runs_here, runs_on}
-use borrow.Author.Rules.{rules}
 use Rattle.edit_slots.proofs.free_run.Goals as goal
 use Rattle.edit_slots.proofs.free_run.Goals.{After-run_fits}
 

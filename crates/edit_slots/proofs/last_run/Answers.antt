@@ -1,6 +1,5 @@
 use mathlib.Core.Path.{sym, ◌∙◌}
 use Rattle.edit_slots.proofs.SlotsByPlaces.{run_yes, run_no}
-use borrow.Author.Rules.{rules}
 use Rattle.edit_slots.proofs.last_run.Goals as goal
 
 pub returns-then-run_fits : goal.returns-then-run_fits

@@ -1,6 +1,5 @@
-use mathlib.Core.Path.{refl, sym, ◌∙◌}
+use mathlib.Core.Path.{sym, ◌∙◌}
 use Rattle.edit_slots.proofs.SlotsByPlaces.{used_yes, used_no}
-use borrow.Author.Rules.{rules}
 use Rattle.edit_slots.proofs.name_used.Goals as goal
 
 pub returns-in-Found-clause-value : goal.returns-in-Found-clause-value

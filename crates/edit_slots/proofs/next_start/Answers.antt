@@ -1,7 +1,6 @@
 use mathlib.Core.Path.{sym}
 use lib.ListN.{get_or-eq_default}
 use Rattle.edit_slots.proofs.SlotsByPlaces.{stands}
-use borrow.Author.Rules.{rules}
 use Rattle.edit_slots.proofs.next_start.Goals as goal
 
 pub returns-then-k-ps : goal.returns-then-k-ps

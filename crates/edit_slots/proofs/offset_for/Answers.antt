@@ -1,6 +1,5 @@
 use mathlib.Core.Path.{refl}
 use Rattle.edit_rules.specs.Edit.{field_length}
-use borrow.Author.Rules.{rules}
 use Rattle.edit_slots.proofs.offset_for.Goals as goal
 
 pub returns-clause-value : goal.returns-clause-value

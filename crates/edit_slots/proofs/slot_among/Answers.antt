@@ -1,13 +1,11 @@
-use Prim.Native.Nat.{ℕ, ◌-◌, ◌<◌}
+use Prim.Native.Nat.{ℕ, ◌<◌}
 use mathlib.Core.Path.{◌≡◌, refl, sym, ap, ◌∙◌}
 use mathlib.Core.List.{List}
-use lib.ListN.{length, drop, get_or}
+use lib.ListN.{length, get_or}
 use Rattle.bytes_read.specs.Number.{be}
 use Rattle.component.specs.Component.{judge_numbers, bears_name}
 use Rattle.strict_check.specs.StrictCheck.{has_name}
-use Rattle.edit_slots.specs.SlotsByPlaces.{slot_among}
 use Rattle.edit_slots.proofs.SlotsByPlaces.{slot_here, slot_on, slot_end}
-use borrow.Author.Rules.{rules}
 use Rattle.edit_slots.proofs.slot_among.Goals as goal
 use Rattle.edit_slots.proofs.slot_among.Goals.{After-is_named, After-rest-s}
 

@@ -1,13 +1,7 @@
-use Prim.Native.Nat.{ℕ, ◌-◌, ◌<◌}
-use mathlib.Core.Path.{◌≡◌, refl, sym, ap, ◌∙◌}
-use mathlib.Core.List.{List}
-use lib.ListN.{length, drop, get_or}
-use Rattle.bytes_read.specs.Number.{be}
-use Rattle.component.specs.Component.{judge_numbers, bears_name}
-use Rattle.strict_check.specs.StrictCheck.{has_name}
+use Prim.Native.Nat.{◌-◌}
+use mathlib.Core.Path.{◌≡◌}
+use lib.ListN.{length, drop}
 use Rattle.edit_slots.specs.SlotsByPlaces.{slot_among}
-use Rattle.edit_slots.proofs.SlotsByPlaces.{slot_here, slot_on, slot_end}
-use borrow.Author.Rules.{rules}
 use Rattle.edit_slots.proofs.slot_among.Given as goal
 
 -- The loop's invariant: no component at the places before the i-th bears the name.

@@ -4,7 +4,6 @@ use mathlib.Core.List.{List}
 use native.Mathlib.Omega.{arith}
 use Rattle.bytes_read.specs.Number.{be}
 use Rattle.edit_slots.proofs.SlotsByPlaces.{span_past}
-use borrow.Author.Rules.{rules}
 use Rattle.edit_slots.proofs.span_end.Goals as goal
 
 pub returns-then-r-p : goal.returns-then-r-p

@@ -1,4 +1,4 @@
-use mathlib.Core.Path.{refl, sym, ◌∙◌}
+use mathlib.Core.Path.{sym, ◌∙◌}
 use native.Mathlib.Omega.{arith}
 use Rattle.region.specs.Region.{region_bytes}
 use Rattle.strict_rules.specs.Strict.{component_limit}
@@ -6,7 +6,6 @@ use Rattle.edit_rules.specs.Edit.{add, add_decision}
 use Rattle.edit_write.specs.EditWrite.{add_in}
 use Rattle.edit_write.proofs.Writing.{edit_refused_lem}
 use Rattle.edit_write.proofs.Writes.{WritesComponent, add_writes}
-use borrow.Author.Rules.{rules}
 use Rattle.edit_write.proofs.add.Goals as goal
 use Rattle.edit_write.proofs.add.Goals.{In-Write}
 

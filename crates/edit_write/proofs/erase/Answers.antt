@@ -1,5 +1,4 @@
 use Rattle.edit_write.proofs.Writing.{filled_whole}
-use borrow.Author.Rules.{rules}
 use Rattle.edit_write.proofs.erase.Goals as goal
 
 pub returns : goal.returns

@@ -3,7 +3,6 @@ use mathlib.Core.Path.{◌≡◌, ap, ◌∙◌}
 use native.Mathlib.Omega.{arith}
 use lib.ListN.{replicate}
 use Rattle.bytes_read.proofs.Splice.{splice_part, part_length}
-use borrow.Author.Rules.{rules}
 use Rattle.edit_write.proofs.erase_at.Goals as goal
 
 pub returns : goal.returns

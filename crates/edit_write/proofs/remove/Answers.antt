@@ -1,4 +1,4 @@
-use mathlib.Core.Path.{refl, sym, ◌∙◌}
+use mathlib.Core.Path.{sym, ◌∙◌}
 use native.Mathlib.Omega.{arith}
 use Rattle.region.specs.Region.{region_bytes}
 use Rattle.strict_rules.specs.Strict.{component_limit}
@@ -7,7 +7,6 @@ use Rattle.edit_decide.specs.Choices.{kind_of_name}
 use Rattle.edit_write.specs.EditWrite.{remove_in}
 use Rattle.edit_write.proofs.Writing.{edit_refused_lem}
 use Rattle.edit_write.proofs.Writes.{ErasesSlot, remove_erases}
-use borrow.Author.Rules.{rules}
 use Rattle.edit_write.proofs.remove.Goals as goal
 use Rattle.edit_write.proofs.remove.Goals.{In-Write}
 

@@ -7,7 +7,6 @@ use Rattle.edit_rules.specs.Edit.{field_length, offset_for, header_bytes, sum_fo
 use Rattle.edit_rules.proofs.Written.{field_fits_lem, length_header, length_span}
 use Rattle.edit_header.proofs.Headers.{begun, more}
 use Rattle.edit_write.proofs.Writing.{span_parts}
-use borrow.Author.Rules.{rules}
 use Rattle.edit_write.proofs.write_component.Goals as goal
 use Rattle.edit_write.proofs.write_component.Goals.{After-offset_for-offset}
 

@@ -5,7 +5,6 @@ use native.Mathlib.Omega.{arith}
 use lib.ListN.{length, replicate}
 use Rattle.bytes_read.proofs.Splice.{splice_part, part_length}
 use Rattle.edit_rules.specs.Edit.{span_bytes}
-use borrow.Author.Rules.{rules}
 use Rattle.edit_write.proofs.write_component_at.Goals as goal
 
 pub returns : goal.returns

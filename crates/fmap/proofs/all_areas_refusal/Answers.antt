@@ -1,6 +1,4 @@
-use borrow.Author.Tests.{not-true, not-false}
 use Rattle.fmap.proofs.Reading.{named_twice, crossing, not_contained, together}
-use borrow.Author.Rules.{rules}
 use Rattle.fmap.proofs.all_areas_refusal.Goals as goal
 
 pub returns-then-not-names_distinct : goal.returns-then-not-names_distinct

@@ -1,12 +1,9 @@
 use Prim.Native.Nat.{◌+◌, ◌*◌, ◌≤◌}
-use mathlib.Core.Path.{◌≡◌, sym, refl, ◌∙◌}
-use native.Mathlib.Omega.{arith}
+use mathlib.Core.Path.{◌≡◌}
 use lib.ListN.{length}
 use Rattle.bytes_read.specs.Lists.{any}
 use Rattle.fmap_area.specs.Area.{cross}
 use Rattle.fmap.specs.Fmap.{areas_at}
-use Rattle.fmap.proofs.Counting.{any_here, any_not, any_end}
-use borrow.Author.Rules.{rules}
 use Rattle.fmap.proofs.crossed.Given as goal
 
 abbrev pub invariant-loop-k : goal.invariant-loop-k

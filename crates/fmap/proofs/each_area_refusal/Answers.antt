@@ -1,9 +1,5 @@
-use Prim.Native.Nat.{◌+◌, ◌*◌, ◌≤◌}
-use mathlib.Core.Path.{◌≡◌, sym, refl, ◌∙◌}
+use mathlib.Core.Path.{sym, refl, ◌∙◌}
 use native.Mathlib.Omega.{arith}
-use lib.ListN.{length}
-use Rattle.region.specs.Refusals.{first_failed}
-use Rattle.fmap.specs.Fmap.{areas_at, each_area_tests}
 use Rattle.fmap.proofs.Counting.{each_here, each_not, each_end}
 use borrow.Author.Rules.{rules}
 use Rattle.fmap.proofs.each_area_refusal.Goals as goal

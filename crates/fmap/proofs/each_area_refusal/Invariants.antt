@@ -1,11 +1,8 @@
 use Prim.Native.Nat.{◌+◌, ◌*◌, ◌≤◌}
-use mathlib.Core.Path.{◌≡◌, sym, refl, ◌∙◌}
-use native.Mathlib.Omega.{arith}
+use mathlib.Core.Path.{◌≡◌}
 use lib.ListN.{length}
 use Rattle.region.specs.Refusals.{first_failed}
 use Rattle.fmap.specs.Fmap.{areas_at, each_area_tests}
-use Rattle.fmap.proofs.Counting.{each_here, each_not, each_end}
-use borrow.Author.Rules.{rules}
 use Rattle.fmap.proofs.each_area_refusal.Given as goal
 
 abbrev pub invariant-loop-k : goal.invariant-loop-k

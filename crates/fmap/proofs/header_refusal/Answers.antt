@@ -3,11 +3,10 @@ use mathlib.Core.Path.{◌≡◌, sym, ap, ◌∙◌}
 use mathlib.Core.List.{List, []}
 use native.Mathlib.Omega.{arith}
 use lib.ListN.{length, drop}
-use borrow.Author.Tests.{leb-true, eq-eqb, ne_eqb, not-true, not-false}
+use borrow.Author.Tests.{leb-true, eq-eqb, ne_eqb}
 use Rattle.region.specs.Refusals.{Test, first_failed}
 use Rattle.fmap.specs.Fmap.{map_end, nareas, count_fits, map_header_tests}
 use Rattle.region.proofs.Orders.{refuses, goes_on}
-use borrow.Author.Rules.{rules}
 use Rattle.fmap.proofs.header_refusal.Goals as goal
 use Rattle.fmap.proofs.header_refusal.Goals.{After-count_fits, Else-byte-ne-FMAP_VER_MAJOR, Else-le32-size, Else-not-map_fits, Start}
 

@@ -1,10 +1,6 @@
-use Prim.Native.Nat.{◌+◌, ◌*◌, ◌≤◌}
-use mathlib.Core.Path.{◌≡◌, sym, refl, ◌∙◌}
+use mathlib.Core.Path.{sym, refl, ◌∙◌}
 use native.Mathlib.Omega.{arith}
-use lib.ListN.{length}
-use Rattle.bytes_read.specs.Lists.{any}
 use Rattle.fmap_area.specs.Area.{contains_map}
-use Rattle.fmap.specs.Fmap.{areas_at}
 use Rattle.fmap.proofs.Counting.{any_here, any_not, any_end}
 use borrow.Author.Rules.{rules}
 use Rattle.fmap.proofs.map_contained.Goals as goal

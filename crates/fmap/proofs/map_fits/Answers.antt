@@ -3,7 +3,6 @@ use mathlib.Core.Path.{sym}
 use native.Mathlib.Omega.{arith}
 use lib.ListN.{length}
 use Rattle.fmap.specs.Fmap.{map_end}
-use borrow.Author.Rules.{rules}
 use Rattle.fmap.proofs.map_fits.Goals as goal
 
 pub returns-then-s-lt-FMAP_HEADER_LEN : goal.returns-then-s-lt-FMAP_HEADER_LEN

@@ -1,7 +1,6 @@
 use mathlib.Core.Path.{sym, ◌∙◌}
 use native.Mathlib.Omega.{arith}
 use Rattle.fmap.proofs.Reading.{HeaderPassed, header_passed, not_refused, at_refused, at_read, map_header, refused_map_header_lem, same_header}
-use borrow.Author.Rules.{rules}
 use Rattle.fmap.proofs.map_header_at.Goals as goal
 use Rattle.fmap.proofs.map_header_at.Goals.{Else-n-ne0}
 

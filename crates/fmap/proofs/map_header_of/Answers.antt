@@ -2,10 +2,8 @@ use Prim.Native.Nat.{ℕ}
 use mathlib.Core.Path.{◌≡◌, sym, ◌∙◌}
 use mathlib.Core.Bool.{true}
 use mathlib.Core.List.{List}
-use borrow.Author.Tests.{not-true, not-false}
 use Rattle.region.specs.Refusals.{length_fits}
 use Rattle.fmap.proofs.Reading.{unfit_length, no_signature, many_signatures, one_signature, refused_map_header_lem, same_header}
-use borrow.Author.Rules.{rules}
 use Rattle.fmap.proofs.map_header_of.Goals as goal
 use Rattle.fmap.proofs.map_header_of.Goals.{After-length_fits, Else-not-length_fits}
 

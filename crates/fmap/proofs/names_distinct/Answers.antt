@@ -1,9 +1,8 @@
-use Prim.Native.Nat.{ℕ, ◌+◌, ◌*◌, ◌-◌, ◌≤◌}
-use mathlib.Core.Path.{◌≡◌, sym, refl, ap, ◌∙◌}
+use Prim.Native.Nat.{ℕ, ◌+◌, ◌-◌}
+use mathlib.Core.Path.{sym, refl, ap, ◌∙◌}
 use native.Mathlib.Omega.{arith}
 use mathlib.Core.List.{List}
-use lib.ListN.{length}
-use Rattle.bytes_read.specs.Lists.{any, no_two}
+use Rattle.bytes_read.specs.Lists.{any}
 use Rattle.fmap_area.specs.Area.{area_has_name, same_name}
 use Rattle.fmap.specs.Fmap.{areas_at}
 use Rattle.fmap.proofs.Counting.{two_here, two_not, two_end}

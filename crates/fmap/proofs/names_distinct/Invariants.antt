@@ -1,13 +1,9 @@
-use Prim.Native.Nat.{ℕ, ◌+◌, ◌*◌, ◌-◌, ◌≤◌}
-use mathlib.Core.Path.{◌≡◌, sym, refl, ap, ◌∙◌}
-use native.Mathlib.Omega.{arith}
-use mathlib.Core.List.{List}
+use Prim.Native.Nat.{◌+◌, ◌*◌, ◌≤◌}
+use mathlib.Core.Path.{◌≡◌}
 use lib.ListN.{length}
-use Rattle.bytes_read.specs.Lists.{any, no_two}
-use Rattle.fmap_area.specs.Area.{area_has_name, same_name}
+use Rattle.bytes_read.specs.Lists.{no_two}
+use Rattle.fmap_area.specs.Area.{same_name}
 use Rattle.fmap.specs.Fmap.{areas_at}
-use Rattle.fmap.proofs.Counting.{two_here, two_not, two_end}
-use borrow.Author.Rules.{rules}
 use Rattle.fmap.proofs.names_distinct.Given as goal
 
 abbrev pub invariant-loop-k : goal.invariant-loop-k

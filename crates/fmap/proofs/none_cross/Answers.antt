@@ -1,10 +1,6 @@
-use Prim.Native.Nat.{◌+◌, ◌*◌, ◌≤◌}
-use mathlib.Core.Path.{◌≡◌, sym, refl, ◌∙◌}
+use mathlib.Core.Path.{sym, refl, ◌∙◌}
 use native.Mathlib.Omega.{arith}
-use lib.ListN.{length}
-use Rattle.bytes_read.specs.Lists.{no_two}
 use Rattle.fmap_area.specs.Area.{cross}
-use Rattle.fmap.specs.Fmap.{areas_at}
 use Rattle.fmap.proofs.Counting.{two_here, two_not, two_end}
 use borrow.Author.Rules.{rules}
 use Rattle.fmap.proofs.none_cross.Goals as goal

@@ -1,12 +1,9 @@
 use Prim.Native.Nat.{◌+◌, ◌*◌, ◌≤◌}
-use mathlib.Core.Path.{◌≡◌, sym, refl, ◌∙◌}
-use native.Mathlib.Omega.{arith}
+use mathlib.Core.Path.{◌≡◌}
 use lib.ListN.{length}
 use Rattle.bytes_read.specs.Lists.{no_two}
 use Rattle.fmap_area.specs.Area.{cross}
 use Rattle.fmap.specs.Fmap.{areas_at}
-use Rattle.fmap.proofs.Counting.{two_here, two_not, two_end}
-use borrow.Author.Rules.{rules}
 use Rattle.fmap.proofs.none_cross.Given as goal
 
 abbrev pub invariant-loop-k : goal.invariant-loop-k

@@ -1,5 +1,4 @@
-use mathlib.Core.Path.{refl, ◌∙◌}
-use borrow.Author.Rules.{rules}
+use mathlib.Core.Path.{◌∙◌}
 use Rattle.fmap.proofs.read.Goals as goal
 
 pub returns-clause-value : goal.returns-clause-value

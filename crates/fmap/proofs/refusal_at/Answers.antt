@@ -1,7 +1,6 @@
 use mathlib.Core.Path.{sym, ◌∙◌}
 use native.Mathlib.Omega.{arith}
 use Rattle.fmap.proofs.Reading.{HeaderPassed, header_passed, by_header, by_area_tests, by_all_tests}
-use borrow.Author.Rules.{rules}
 use Rattle.fmap.proofs.refusal_at.Goals as goal
 use Rattle.fmap.proofs.refusal_at.Goals.{Else-h-ne0}
 

@@ -1,12 +1,8 @@
-use Prim.Native.Nat.{ℕ, ◌+◌, ◌*◌, ◌-◌, ◌≤◌}
-use mathlib.Core.Path.{◌≡◌, ap, ◌∙◌}
-use native.Mathlib.Omega.{arith}
+use Prim.Native.Nat.{◌+◌, ◌*◌, ◌-◌, ◌≤◌}
+use mathlib.Core.Path.{◌≡◌}
 use Rattle.bytes_read.specs.Lists.{padded}
 use Rattle.fmap_area.specs.Area.{unused_area}
 use Rattle.fmap.specs.Fmap.{areas_at, area_limit}
-use Rattle.fmap.proofs.Counting.{padded_start, padded-next}
-use Rattle.fmap.proofs.Reading.{area_fields}
-use borrow.Author.Rules.{rules}
 use Rattle.fmap.proofs.with_areas.Given as goal
 
 -- The loop's invariant: the first i areas are stored, and the other records are not used.

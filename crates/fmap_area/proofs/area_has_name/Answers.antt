@@ -1,6 +1,5 @@
-use mathlib.Core.Path.{refl, ◌∙◌}
+use mathlib.Core.Path.{◌∙◌}
 use Rattle.fmap_area.specs.Area.{area_has_name}
-use borrow.Author.Rules.{rules}
 use Rattle.fmap_area.proofs.area_has_name.Goals as goal
 
 pub returns-clause-value : goal.returns-clause-value

@@ -1,8 +1,7 @@
-use mathlib.Core.Path.{refl, sym, ◌∙◌}
+use mathlib.Core.Path.{sym, ◌∙◌}
 use native.Mathlib.Omega.{arith}
 use Rattle.fmap_area.specs.Area.{area_at}
 use Rattle.fmap_area.proofs.Records.{area_in_lem, area_out}
-use borrow.Author.Rules.{rules}
 use Rattle.fmap_area.proofs.at.Goals as goal
 
 pub returns-then-s-lt-FMAP_AREA_LEN-clause-value : goal.returns-then-s-lt-FMAP_AREA_LEN-clause-value

@@ -1,9 +1,8 @@
-use borrow.Author.Tests.{le-leb, lt-leb, not-true, not-false}
-use mathlib.Core.Path.{◌≡◌, refl, sym, ◌∙◌}
+use borrow.Author.Tests.{le-leb, lt-leb}
+use mathlib.Core.Path.{◌≡◌, sym, ◌∙◌}
 use mathlib.Core.Bool.{true}
 use native.Mathlib.Omega.{arith}
 use Rattle.fmap_area.specs.Area.{end_of, area_has_name, fmap_name, fmap_area_tests, contains_map}
-use borrow.Author.Rules.{rules}
 use Rattle.fmap_area.proofs.contains_map.Goals as goal
 use Rattle.fmap_area.proofs.contains_map.Goals.{Else-not-area_has_name}
 

@@ -1,6 +1,5 @@
 use mathlib.Core.Path.{sym, ◌∙◌}
 use Rattle.fmap_area.specs.Area.{cross as cross_of}
-use borrow.Author.Rules.{rules}
 use Rattle.fmap_area.proofs.cross.Goals as goal
 
 pub returns-then-disjoint : goal.returns-then-disjoint

@@ -1,6 +1,5 @@
 use mathlib.Core.Path.{sym, ◌∙◌}
 use Rattle.fmap_area.specs.Area.{disjoint as disjointOf}
-use borrow.Author.Rules.{rules}
 use Rattle.fmap_area.proofs.disjoint.Goals as goal
 
 pub returns-then-ends_by : goal.returns-then-ends_by

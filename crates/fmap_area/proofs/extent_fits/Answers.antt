@@ -2,7 +2,6 @@ use borrow.Author.Tests.{le-leb, lt-leb}
 use mathlib.Core.Path.{sym, ◌∙◌}
 use Rattle.bytes_read.proofs.Passing.{all_true_last}
 use Rattle.fmap_area.specs.Area.{extent_fits}
-use borrow.Author.Rules.{rules}
 use Rattle.fmap_area.proofs.extent_fits.Goals as goal
 
 pub returns-then-a-lt1 : goal.returns-then-a-lt1

@@ -1,6 +1,5 @@
-use mathlib.Core.Path.{refl, ◌∙◌}
+use mathlib.Core.Path.{◌∙◌}
 use Rattle.fmap_area.proofs.Naming.{name_part}
-use borrow.Author.Rules.{rules}
 use Rattle.fmap_area.proofs.name.Goals as goal
 
 pub returns-clause-result_value : goal.returns-clause-result_value

@@ -1,5 +1,4 @@
 use Rattle.fmap_area.proofs.Naming.{name_long, name_cut, name_without_zero, name_good}
-use borrow.Author.Rules.{rules}
 use Rattle.fmap_area.proofs.name_length.Goals as goal
 
 pub returns-then-n-gt-AREA_NAME_MAX : goal.returns-then-n-gt-AREA_NAME_MAX

@@ -1,11 +1,9 @@
-use mathlib.Core.Path.{◌≡◌, refl, sym, ◌∙◌}
+use mathlib.Core.Path.{◌≡◌, sym, ◌∙◌}
 use mathlib.Core.Bool.{true}
 use lib.ListN.{length, drop}
-use borrow.Author.Tests.{not-true, not-false}
 use Rattle.fmap_area.specs.Names.{area_name_of, area_name_fits}
 use Rattle.fmap_area.specs.Area.{area_tests}
 use Rattle.fmap_area.proofs.Naming.{name_fit, name_unfit}
-use borrow.Author.Rules.{rules}
 use Rattle.fmap_area.proofs.refusal_number.Goals as goal
 use Rattle.fmap_area.proofs.refusal_number.Goals.{After-name_length, Else-name_length-eq0}
 

@@ -1,7 +1,6 @@
 use mathlib.Core.Path.{sym}
 use Rattle.fmap_signature.specs.Signatures.{signature, has_signature}
 use Rattle.fmap_signature.proofs.Searching.{signature_short}
-use borrow.Author.Rules.{rules}
 use Rattle.fmap_signature.proofs.has_signature.Goals as goal
 
 pub returns-then-s-lt8 : goal.returns-then-s-lt8

@@ -1,9 +1,6 @@
 use Prim.Native.Nat.{◌-◌}
-use mathlib.Core.Path.{◌≡◌, refl, ◌∙◌}
-use native.Mathlib.Omega.{arith}
+use mathlib.Core.Path.{◌≡◌}
 use Rattle.fmap_signature.specs.Signatures.{signatures_from}
-use Rattle.fmap_signature.proofs.Searching.{signature_eight, signature_here, signature_not, signature_end}
-use borrow.Author.Rules.{rules}
 use Rattle.fmap_signature.proofs.next_signature.Given as goal
 
 abbrev pub invariant-loop-p : goal.invariant-loop-p

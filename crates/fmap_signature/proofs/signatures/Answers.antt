@@ -1,6 +1,4 @@
-use mathlib.Core.Path.{refl}
 use Rattle.fmap_signature.proofs.Searching.{found_nothing, found_several, found_one}
-use borrow.Author.Rules.{rules}
 use Rattle.fmap_signature.proofs.signatures.Goals as goal
 
 pub returns-then-s-p-clause-value : goal.returns-then-s-p-clause-value

@@ -1,6 +1,5 @@
 use mathlib.Core.Path.{sym, ◌∙◌}
 use Rattle.bytes_read.proofs.Splice.{rest}
-use borrow.Author.Rules.{rules}
 use Rattle.image_find.proofs.image_content.Goals as goal
 
 pub returns-in-Read : goal.returns-in-Read

@@ -1,5 +1,4 @@
-use mathlib.Core.Path.{refl, sym, ◌∙◌}
-use borrow.Author.Rules.{rules}
+use mathlib.Core.Path.{sym, ◌∙◌}
 use Rattle.image_find.proofs.name_at.Goals as goal
 
 pub returns-in-Read-clause-result_value : goal.returns-in-Read-clause-result_value

@@ -1,6 +1,4 @@
-use borrow.Author.Tests.{not-true, not-false}
 use Rattle.load_payload.specs.Payload.{bss_tests}
-use borrow.Author.Rules.{rules}
 use Rattle.load_payload.proofs.bss_refusal.Goals as goal
 
 pub returns-then-not-target_fits : goal.returns-then-not-target_fits

@@ -1,4 +1,3 @@
-use borrow.Author.Rules.{rules}
 use Rattle.load_payload.proofs.bss_segment.Goals as goal
 
 pub returns : goal.returns

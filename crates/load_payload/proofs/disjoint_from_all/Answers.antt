@@ -1,8 +1,4 @@
-use Prim.Native.Nat.{◌-◌, ◌≤◌}
-use mathlib.Core.Path.{◌≡◌, refl, sym, ◌∙◌}
-use lib.ListN.{take, drop}
-use borrow.Author.Tests.{not-true, not-false}
-use Rattle.load_payload.specs.Payload.{disjoint_from_all}
+use mathlib.Core.Path.{refl, sym, ◌∙◌}
 use Rattle.load_payload.proofs.DisjointTargets.{disjoint_here, disjoint_not, disjoint_end}
 use borrow.Author.Rules.{rules}
 use Rattle.load_payload.proofs.disjoint_from_all.Goals as goal

@@ -1,10 +1,7 @@
 use Prim.Native.Nat.{◌-◌, ◌≤◌}
-use mathlib.Core.Path.{◌≡◌, refl, sym, ◌∙◌}
+use mathlib.Core.Path.{◌≡◌}
 use lib.ListN.{take, drop}
-use borrow.Author.Tests.{not-true, not-false}
 use Rattle.load_payload.specs.Payload.{disjoint_from_all}
-use Rattle.load_payload.proofs.DisjointTargets.{disjoint_here, disjoint_not, disjoint_end}
-use borrow.Author.Rules.{rules}
 use Rattle.load_payload.proofs.disjoint_from_all.Given as goal
 
 abbrev pub invariant-loop-i : goal.invariant-loop-i

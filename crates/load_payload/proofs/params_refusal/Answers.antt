@@ -1,6 +1,5 @@
-use borrow.Author.Tests.{le-leb, lt-leb, not-true, not-false}
+use borrow.Author.Tests.{le-leb, lt-leb}
 use Rattle.load_payload.specs.Payload.{params_tests}
-use borrow.Author.Rules.{rules}
 use Rattle.load_payload.proofs.params_refusal.Goals as goal
 
 pub returns-then-x-gt-COMPRESSION_MAX : goal.returns-then-x-gt-COMPRESSION_MAX

@@ -1,6 +1,5 @@
 use mathlib.Core.Path.{refl}
 use Rattle.load_payload.proofs.Planning.{no_payload, payload_by}
-use borrow.Author.Rules.{rules}
 use Rattle.load_payload.proofs.payload_of.Goals as goal
 
 pub returns-then-h-ne-CBFS_TYPE_SELF : goal.returns-then-h-ne-CBFS_TYPE_SELF

@@ -1,7 +1,5 @@
-use mathlib.Core.Path.{refl}
 use Rattle.load_segment.proofs.Answering.{place, plan_found, plan_refused}
 use Rattle.load_payload.specs.Payload.{refused_payload, payload_of, payload_in}
-use borrow.Author.Rules.{rules}
 use Rattle.load_payload.proofs.plan.Goals as goal
 
 pub payload_of-requires : goal.payload_of-requires
@@ -18,4 +16,4 @@ pub returns-in-Refused-clause-value : goal.returns-in-Refused-clause-value
 unfolding payload_in
 returns-in-Refused-clause-value c =
     let a = c.args in plan_refused refused_payload payload_of a.image.now a.region a.name.now c.find_in-f.ensures.value c.in-Refused.is
-          c.refused_payload.ensures
+    c.refused_payload.ensures

@@ -1,5 +1,3 @@
-use native.Mathlib.Omega.{arith}
-use mathlib.Core.Logic.{inl, inr}
 use Rattle.load_payload.proofs.RecordTypes.{too_short, is_loaded, is_bss, is_params, is_entry_lem, is_unknown}
 use borrow.Author.Rules.{rules}
 use Rattle.load_payload.proofs.record_at.Goals as goal

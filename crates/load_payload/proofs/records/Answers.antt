@@ -1,8 +1,5 @@
-use Prim.Native.Nat.{◌-◌}
 use mathlib.Core.Path.{refl}
-use borrow.Author.Tests.{not-true, not-false}
-use Rattle.load_payload.proofs.RecordList.{Going, starting, over, by_record, overlapped, going, finished}
-use borrow.Author.Rules.{rules}
+use Rattle.load_payload.proofs.RecordList.{starting, over, by_record, overlapped, going, finished}
 use Rattle.load_payload.proofs.records.Goals as goal
 
 pub loop-i-init : goal.loop-i-init

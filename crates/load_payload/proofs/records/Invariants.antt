@@ -1,8 +1,5 @@
 use Prim.Native.Nat.{◌-◌}
-use mathlib.Core.Path.{refl}
-use borrow.Author.Tests.{not-true, not-false}
-use Rattle.load_payload.proofs.RecordList.{Going, starting, over, by_record, overlapped, going, finished}
-use borrow.Author.Rules.{rules}
+use Rattle.load_payload.proofs.RecordList.{Going}
 use Rattle.load_payload.proofs.records.Given as goal
 
 abbrev pub invariant-loop-i : goal.invariant-loop-i

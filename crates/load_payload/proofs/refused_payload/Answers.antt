@@ -1,6 +1,5 @@
 use Rattle.load_payload.specs.Payload.{segment_limit, unused_segment, refused_payload}
 use Rattle.bytes_read.proofs.Padding.{padded_none}
-use borrow.Author.Rules.{rules}
 use Rattle.load_payload.proofs.refused_payload.Goals as goal
 
 pub returns : goal.returns

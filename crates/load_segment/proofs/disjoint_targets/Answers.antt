@@ -2,7 +2,6 @@ use native.Mathlib.Omega.{arith}
 use Prim.Native.Nat.{◌+◌}
 use borrow.Author.Tests.{le-leb, lt-leb, eq-eqb, ne_eqb}
 use Rattle.load_segment.specs.LoadSegment.{ends_before, disjoint_targets}
-use borrow.Author.Rules.{rules}
 use Rattle.load_segment.proofs.disjoint_targets.Goals as goal
 
 pub returns-then-a-eq0 : goal.returns-then-a-eq0

@@ -1,8 +1,7 @@
 use mathlib.Core.Path.{◌≡◌, sym, ◌∙◌}
 use mathlib.Core.Bool.{true}
-use borrow.Author.Tests.{le-leb, lt-leb, not-true, not-false}
+use borrow.Author.Tests.{le-leb, lt-leb}
 use Rattle.load_segment.specs.LoadSegment.{source_fits, len_fits, load_tests}
-use borrow.Author.Rules.{rules}
 use Rattle.load_segment.proofs.load_refusal.Goals as goal
 use Rattle.load_segment.proofs.load_refusal.Goals.{Else-not-len_fits, Else-not-source_fits}
 

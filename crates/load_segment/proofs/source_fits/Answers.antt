@@ -2,7 +2,6 @@ use Prim.Native.Nat.{◌+◌}
 use native.Mathlib.Omega.{arith}
 use borrow.Author.Tests.{le-leb, lt-leb}
 use Rattle.load_segment.specs.LoadSegment.{source_fits}
-use borrow.Author.Rules.{rules}
 use Rattle.load_segment.proofs.source_fits.Goals as goal
 
 pub returns-then-p-at : goal.returns-then-p-at

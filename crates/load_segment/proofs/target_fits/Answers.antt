@@ -2,7 +2,6 @@ use native.Mathlib.Omega.{arith}
 use Prim.Native.Nat.{◌+◌, ◌^◌}
 use borrow.Author.Tests.{le-leb, lt-leb}
 use Rattle.load_segment.specs.LoadSegment.{target_fits}
-use borrow.Author.Rules.{rules}
 use Rattle.load_segment.proofs.target_fits.Goals as goal
 
 pub returns-then-memlen-eq0 : goal.returns-then-memlen-eq0

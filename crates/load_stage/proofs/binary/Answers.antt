@@ -1,4 +1,3 @@
-use borrow.Author.Rules.{rules}
 use Rattle.load_stage.proofs.binary.Goals as goal
 
 pub returns : goal.returns

@@ -1,7 +1,5 @@
-use mathlib.Core.Path.{refl}
 use Rattle.load_segment.proofs.Answering.{place, plan_found, plan_refused}
 use Rattle.load_stage.specs.Stage.{refused_stage, stage_of, stage_in}
-use borrow.Author.Rules.{rules}
 use Rattle.load_stage.proofs.plan.Goals as goal
 
 pub stage_of-requires : goal.stage_of-requires

@@ -1,6 +1,5 @@
 use mathlib.Core.Path.{refl}
 use Rattle.load_stage.proofs.Planning.{stage_by}
-use borrow.Author.Rules.{rules}
 use Rattle.load_stage.proofs.stage_of.Goals as goal
 
 pub returns : goal.returns

@@ -1,5 +1,4 @@
 use Rattle.load_stage.proofs.Planning.{no_stage, no_header, no_load, staged}
-use borrow.Author.Rules.{rules}
 use Rattle.load_stage.proofs.stage_read.Goals as goal
 
 pub returns-then-k-ne-CBFS_TYPE_LEGACY_STAGE : goal.returns-then-k-ne-CBFS_TYPE_LEGACY_STAGE

@@ -6,8 +6,7 @@ use lib.Dec.{leb}
 use lib.ListN.{length}
 use borrow.Author.Tests.{le-leb, lt-leb}
 use Rattle.bytes_read.proofs.Passing.{fails}
-use Rattle.master_header.specs.Master.{address, address_fits}
-use borrow.Author.Rules.{rules}
+use Rattle.master_header.specs.Master.{address_fits}
 use Rattle.master_header.proofs.address_fits.Goals as goal
 
 abbrev tests : List ℕ → ℕ → List Bool

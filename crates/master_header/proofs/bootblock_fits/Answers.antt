@@ -8,7 +8,6 @@ use lib.ListN.{length}
 use borrow.Author.Tests.{le-leb, lt-leb}
 use Rattle.bytes_read.proofs.Passing.{fails}
 use Rattle.master_header.specs.Master.{romsize, header_at, bootblock_fits}
-use borrow.Author.Rules.{rules}
 use Rattle.master_header.proofs.bootblock_fits.Goals as goal
 
 abbrev tests : List ℕ → ℕ → ℕ → List Bool

@@ -2,7 +2,6 @@ use Prim.Native.Nat.{◌+◌, ◌-◌}
 use mathlib.Core.Path.{◌≡◌, ◌∙◌}
 use native.Mathlib.Omega.{arith}
 use Rattle.bytes_read.proofs.Numbers.{be_within}
-use borrow.Author.Rules.{rules}
 use Rattle.master_header.proofs.field.Goals as goal
 
 pub returns : goal.returns

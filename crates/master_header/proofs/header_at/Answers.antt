@@ -1,7 +1,6 @@
 use native.Mathlib.Omega.{arith}
 use Rattle.master_header.specs.Master.{header_at}
 use Rattle.master_header.proofs.Refusing.{header_inside}
-use borrow.Author.Rules.{rules}
 use Rattle.master_header.proofs.header_at.Goals as goal
 
 pub address-requires : goal.address-requires

@@ -7,7 +7,6 @@ use borrow.Author.Tests.{le-leb, lt-leb, eq-eqb, ne_eqb}
 use Rattle.bytes_read.proofs.Passing.{fails}
 use Rattle.master_header.specs.Master.{offset_fits}
 use Rattle.master_header.proofs.Refusing.{zero_align, zero_align_not}
-use borrow.Author.Rules.{rules}
 use Rattle.master_header.proofs.offset_fits.Goals as goal
 
 abbrev tests : ℕ → ℕ → ℕ → List Bool

@@ -1,13 +1,11 @@
 use Prim.Native.Nat.{ℕ}
-use mathlib.Core.Path.{◌≡◌, refl, sym, ◌∙◌}
+use mathlib.Core.Path.{◌≡◌, sym, ◌∙◌}
 use mathlib.Core.Bool.{true}
 use mathlib.Core.List.{List}
 use native.Mathlib.Omega.{arith}
-use borrow.Author.Tests.{not-true, not-false}
 use Rattle.region.specs.Refusals.{length_fits}
 use Rattle.master_header.specs.Master.{address_fits}
 use Rattle.master_header.proofs.Refusing.{length_bounds, length_refused, address_refused, read_refused, read_region}
-use borrow.Author.Rules.{rules}
 use Rattle.master_header.proofs.read.Goals as goal
 use Rattle.master_header.proofs.read.Goals.{Else-not-address_fits, Else-not-length_fits}
 
@@ -24,7 +22,7 @@ passed2 c = sym c.address_fits.ensures ∙ c.if-not-address_fits.false
 pub returns-then-not-length_fits-clause-value : goal.returns-then-not-length_fits-clause-value
 returns-then-not-length_fits-clause-value c =
     let i = c.args.image.now in read_refused i 1 (sym (length_refused i (sym c.length_fits.ensures.value ∙ c.if-not-length_fits.true))) (λ e. absurd (omega (arith, e)))
-          c.refusal_by.ensures
+    c.refusal_by.ensures
 
 pub address_fits-requires : goal.address_fits-requires
 address_fits-requires c = omega (arith, length_bounds (image (goal.at.address_fits-requires c).Else-not-length_fits) (passed1 (goal.at.address_fits-requires c).Else-not-length_fits))
@@ -32,7 +30,7 @@ address_fits-requires c = omega (arith, length_bounds (image (goal.at.address_fi
 pub returns-then-not-address_fits-clause-value : goal.returns-then-not-address_fits-clause-value
 returns-then-not-address_fits-clause-value c =
     read_refused (image (goal.at.returns-then-not-address_fits-clause-value c).Else-not-length_fits) 2 (sym (address_refused (image (goal.at.returns-then-not-address_fits-clause-value c).Else-not-length_fits) (passed1 (goal.at.returns-then-not-address_fits-clause-value c).Else-not-length_fits) (sym c.address_fits.ensures ∙ c.if-not-address_fits.true)))
-          (λ e. absurd (omega (arith, e))) c.refusal_by-then-not-address_fits.ensures
+    (λ e. absurd (omega (arith, e))) c.refusal_by-then-not-address_fits.ensures
 
 pub header_at-at-requires : goal.header_at-at-requires
 header_at-at-requires c = passed2 (goal.at.header_at-at-requires c).Else-not-address_fits
@@ -56,4 +54,4 @@ returns-then-n-ne0-clause-value c =
 pub returns-clause-value : goal.returns-clause-value
 returns-clause-value c =
     read_region (image (goal.at.returns-clause-value c).Else-not-length_fits) _ c.refusal_number-n.ensures c.if-n-ne0.false
-          (rw (c.field-align.ensures, c.region_end.ensures, c.field-offset.ensures))
+    (rw (c.field-align.ensures, c.region_end.ensures, c.field-offset.ensures))

@@ -2,12 +2,11 @@ use Prim.Native.Nat.{ℕ, ◌-◌}
 use mathlib.Core.Path.{◌≡◌, sym, ap, ◌∙◌}
 use mathlib.Core.List.{List, []}
 use lib.ListN.{drop}
-use borrow.Author.Tests.{eq-eqb, ne_eqb, not-true, not-false}
+use borrow.Author.Tests.{eq-eqb, ne_eqb}
 use Rattle.region.specs.Refusals.{first_failed}
 use Rattle.master_header.specs.Master.{romsize, bootblocksize, align, offset, align_fits, offset_fits, master_tests, refusal_number}
 use Rattle.region.proofs.Orders.{refuses, goes_on}
 use Rattle.master_header.proofs.Refusing.{two_passed}
-use borrow.Author.Rules.{rules}
 use Rattle.master_header.proofs.refusal_number.Goals as goal
 use Rattle.master_header.proofs.refusal_number.Goals.{After-align_fits, After-bootblock_fits, After-field, After-field-2, After-field-3, After-offset_fits, Else-field-image, Else-field-ne-CBFS_HEADER_MAGIC, Else-field-ne-CBFS_HEADER_VERSION1, Else-not-align_fits, Else-not-bootblock_fits}
 

@@ -1,5 +1,4 @@
 use native.Mathlib.Omega.{arith}
-use borrow.Author.Rules.{rules}
 use Rattle.master_header.proofs.region_end.Goals as goal
 
 pub returns : goal.returns

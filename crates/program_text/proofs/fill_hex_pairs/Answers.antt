@@ -1,11 +1,8 @@
-use Prim.Native.Nat.{◌-◌, ◌*◌}
 use mathlib.Core.Path.{sym, ◌∙◌}
-use lib.ListN.{length, length-set}
+use lib.ListN.{length-set}
 use native.Mathlib.Omega.{arith}
-use Rattle.bytes_read.proofs.Overwrite.{Over, over_start, over_all}
-use Rattle.program_text.specs.Digits.{hex_pairs}
+use Rattle.bytes_read.proofs.Overwrite.{over_start, over_all}
 use Rattle.program_text.proofs.Laws.{length_pairs, pairs_next}
-use borrow.Author.Rules.{rules}
 use Rattle.program_text.proofs.fill_hex_pairs.Goals as goal
 
 pub loop-i-init : goal.loop-i-init

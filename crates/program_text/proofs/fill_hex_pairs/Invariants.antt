@@ -1,11 +1,7 @@
 use Prim.Native.Nat.{◌-◌, ◌*◌}
-use mathlib.Core.Path.{sym, ◌∙◌}
-use lib.ListN.{length, length-set}
-use native.Mathlib.Omega.{arith}
-use Rattle.bytes_read.proofs.Overwrite.{Over, over_start, over_all}
+use lib.ListN.{length}
+use Rattle.bytes_read.proofs.Overwrite.{Over}
 use Rattle.program_text.specs.Digits.{hex_pairs}
-use Rattle.program_text.proofs.Laws.{length_pairs, pairs_next}
-use borrow.Author.Rules.{rules}
 use Rattle.program_text.proofs.fill_hex_pairs.Given as goal
 
 abbrev pub invariant-loop-i : goal.invariant-loop-i

@@ -1,10 +1,8 @@
 use Prim.Native.Nat.{◌+◌, ◌*◌}
-use mathlib.Core.Path.{refl}
 use lib.ListN.{length}
 use native.Mathlib.Omega.{arith}
 use Rattle.bytes_read.proofs.Splice.{splice_part}
 use Rattle.program_text.proofs.Laws.{hex_none, hex_out, hex_in}
-use borrow.Author.Rules.{rules}
 use Rattle.program_text.proofs.hex.Goals as goal
 
 pub returns-then-s-eq0-clause-value : goal.returns-then-s-eq0-clause-value

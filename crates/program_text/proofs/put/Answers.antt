@@ -1,10 +1,9 @@
 use Prim.Native.Nat.{◌+◌, ◌≤◌}
-use mathlib.Core.Path.{refl, sym, ◌∙◌}
+use mathlib.Core.Path.{sym, ◌∙◌}
 use lib.ListN.{length}
 use native.Mathlib.Omega.{arith}
 use borrow.Author.Tests.{leb-true}
 use Rattle.program_text.proofs.Laws.{after_when}
-use borrow.Author.Rules.{rules}
 use Rattle.program_text.proofs.put.Goals as goal
 
 pub overflow_add-result : goal.overflow_add-result

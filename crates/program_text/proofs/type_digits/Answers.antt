@@ -3,7 +3,6 @@ use mathlib.Core.Path.{◌≡◌}
 use mathlib.Core.List.{[], ◌∷◌}
 use native.Mathlib.Nat.{div-div-eq-div-mul}
 use Rattle.program_text.specs.Digits.{digit_of, digits, type_digits}
-use borrow.Author.Rules.{rules}
 use Rattle.program_text.proofs.type_digits.Goals as goal
 
 -- Eight digits that are right one by one are right together.

@@ -1,5 +1,4 @@
-use mathlib.Core.Path.{refl, ◌∙◌}
-use borrow.Author.Rules.{rules}
+use mathlib.Core.Path.{◌∙◌}
 use Rattle.region_read.proofs.content_at_in.Goals as goal
 
 pub returns-clause-result_value : goal.returns-clause-result_value

@@ -1,11 +1,10 @@
 use Prim.Native.Nat.{ℕ}
-use mathlib.Core.Path.{◌≡◌, refl, sym, ◌∙◌}
+use mathlib.Core.Path.{◌≡◌, sym, ◌∙◌}
 use mathlib.Core.List.{List}
 use Rattle.walk_lookup.specs.Lookup.{LookupResult, bearer_answer, lookup_of}
 use Rattle.region.specs.Region.{region_bytes}
 use Rattle.region_read.proofs.Answers.{found_content, content_refused}
 use Rattle.walk_lookup.proofs.Answers.{lookup_member}
-use borrow.Author.Rules.{rules}
 use Rattle.region_read.proofs.content_found_in.Goals as goal
 use Rattle.region_read.proofs.content_found_in.Goals.{After-find-f}
 
@@ -22,8 +21,8 @@ said c = sym (rw c.bytes-bytes.ensures.result_value at c.find-f.ensures.value)
 pub returns-in-At-clause-result_value : goal.returns-in-At-clause-result_value
 returns-in-At-clause-result_value c =
     let a = c.args in (rw c.bytes-bytes.ensures.result_value at c.content_of.ensures
-          ∙ found_content a.image.now a.region a.guarded (looked (goal.at.returns-in-At-clause-result_value c).After-find-f)
-          (λ e q. (lookup_member a.guarded (region (goal.at.returns-in-At-clause-result_value c).After-find-f) a.region.align a.name.now e q).0) _ (said (goal.at.returns-in-At-clause-result_value c).After-find-f ∙ c.in-At.is))
+    ∙ found_content a.image.now a.region a.guarded (looked (goal.at.returns-in-At-clause-result_value c).After-find-f)
+    (λ e q. (lookup_member a.guarded (region (goal.at.returns-in-At-clause-result_value c).After-find-f) a.region.align a.name.now e q).0) _ (said (goal.at.returns-in-At-clause-result_value c).After-find-f ∙ c.in-At.is))
 
 pub returns-in-Refused-clause-result_value : goal.returns-in-Refused-clause-result_value
 returns-in-Refused-clause-result_value c =

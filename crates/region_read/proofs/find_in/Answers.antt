@@ -1,12 +1,11 @@
 use Prim.Native.Nat.{ℕ}
-use mathlib.Core.Path.{◌≡◌, refl, sym, ◌∙◌}
+use mathlib.Core.Path.{◌≡◌, sym, ◌∙◌}
 use mathlib.Core.List.{List}
 use native.Mathlib.Omega.{arith}
 use Rattle.walk_lookup.specs.Lookup.{LookupResult, bearer_answer, lookup_of}
 use Rattle.region.specs.Region.{region_bytes}
 use Rattle.region_read.proofs.Answers.{found_sums, found_at, found_refused}
 use Rattle.walk_lookup.proofs.Answers.{lookup_member}
-use borrow.Author.Rules.{rules}
 use Rattle.region_read.proofs.find_in.Goals as goal
 use Rattle.region_read.proofs.find_in.Goals.{After-find-f}
 

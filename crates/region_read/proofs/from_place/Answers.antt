@@ -1,9 +1,7 @@
 use mathlib.Core.Path.{sym, ◌∙◌}
 use native.Mathlib.Omega.{arith}
-use borrow.Author.Tests.{not-true, not-false}
 use Rattle.region_read.specs.RegionRead.{from_place}
 use Rattle.region_read.proofs.Numbers.{fit_from}
-use borrow.Author.Rules.{rules}
 use Rattle.region_read.proofs.from_place.Goals as goal
 
 pub returns-then-not-is_step_start : goal.returns-then-not-is_step_start

@@ -1,5 +1,4 @@
 use Rattle.region_read.proofs.Numbers.{fit_low, fit_high, fit_end, fit_place, fit_zero}
-use borrow.Author.Rules.{rules}
 use Rattle.region_read.proofs.is_step_start.Goals as goal
 
 pub returns-then-n-region : goal.returns-then-n-region

@@ -1,14 +1,12 @@
 use Prim.Native.Nat.{ℕ, ◌-◌}
-use mathlib.Core.Path.{◌≡◌, refl, sym, ◌∙◌}
+use mathlib.Core.Path.{◌≡◌, sym, ◌∙◌}
 use mathlib.Core.List.{List}
 use mathlib.Core.Option.{Option}
 use native.Mathlib.Omega.{arith}
-use borrow.Author.Tests.{not-true, not-false}
 use Rattle.walk.specs.Walk.{Entry, pick_of, step, step_answer}
 use Rattle.region.specs.Region.{region_bytes}
 use Rattle.region_read.proofs.Numbers.{fit_from}
 use Rattle.region_read.proofs.Answers.{step_sums, step_answer_took, step_answer_none, refused_nine, step_fit}
-use borrow.Author.Rules.{rules}
 use Rattle.region_read.proofs.step_in.Goals as goal
 use Rattle.region_read.proofs.step_in.Goals.{After-walk_step-s}
 
@@ -44,12 +42,12 @@ pub returns-in-Took-clause-value : goal.returns-in-Took-clause-value
 returns-in-Took-clause-value c =
     let a = c.args in
     step_fit a.image.now a.region (pick_of a.guarded (region (goal.at.returns-in-Took-clause-value c).After-walk_step-s) a.region.align) a.from c.is_step_start.ensures
-          c.if-not-is_step_start.false
-          (step_answer_took a.image.now a.region (stepping (goal.at.returns-in-Took-clause-value c).After-walk_step-s) _ (said (goal.at.returns-in-Took-clause-value c).After-walk_step-s ∙ c.in-Took.is) c.shift.ensures)
+    c.if-not-is_step_start.false
+    (step_answer_took a.image.now a.region (stepping (goal.at.returns-in-Took-clause-value c).After-walk_step-s) _ (said (goal.at.returns-in-Took-clause-value c).After-walk_step-s ∙ c.in-Took.is) c.shift.ensures)
 
 pub returns-in-NoneLeft-clause-value : goal.returns-in-NoneLeft-clause-value
 returns-in-NoneLeft-clause-value c =
     let a = c.args in
     step_fit a.image.now a.region (pick_of a.guarded (region (goal.at.returns-in-NoneLeft-clause-value c).After-walk_step-s) a.region.align) a.from c.is_step_start.ensures
-          c.if-not-is_step_start.false
-          (step_answer_none a.image.now a.region (stepping (goal.at.returns-in-NoneLeft-clause-value c).After-walk_step-s) (said (goal.at.returns-in-NoneLeft-clause-value c).After-walk_step-s ∙ c.in-NoneLeft.is))
+    c.if-not-is_step_start.false
+    (step_answer_none a.image.now a.region (stepping (goal.at.returns-in-NoneLeft-clause-value c).After-walk_step-s) (said (goal.at.returns-in-NoneLeft-clause-value c).After-walk_step-s ∙ c.in-NoneLeft.is))

@@ -1,10 +1,9 @@
-use Prim.Native.Nat.{ℕ, ◌+◌, ◌-◌, ◌≤◌, ◌<◌}
+use Prim.Native.Nat.{ℕ, ◌+◌, ◌<◌}
 use mathlib.Core.Path.{◌≡◌, refl, ap, ◌∙◌}
 use mathlib.Core.List.{List, ◌++◌, map}
 use native.Mathlib.Omega.{arith}
-use lib.ListN.{length, take, drop, get_or, set, length-set}
+use lib.ListN.{take, drop, get_or, set, length-set}
 use Rattle.strict_check.proofs.Directories.{shifted_at, shifted_next}
-use borrow.Author.Rules.{rules}
 use Rattle.strict_check.proofs.add_start.Goals as goal
 
 pub loop-i-init : goal.loop-i-init

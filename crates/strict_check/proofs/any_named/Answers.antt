@@ -1,11 +1,7 @@
-use Prim.Native.Nat.{◌-◌, ◌≤◌}
-use mathlib.Core.Path.{◌≡◌, refl, sym, ◌∙◌}
+use mathlib.Core.Path.{refl, sym, ◌∙◌}
 use native.Mathlib.Omega.{arith}
-use lib.ListN.{take, drop}
-use Rattle.bytes_read.specs.Lists.{any}
 use Rattle.strict_check.specs.StrictCheck.{has_name}
 use Rattle.strict_check.proofs.Names.{any_here, any_on, any_end}
-use borrow.Author.Rules.{rules}
 use Rattle.strict_check.proofs.any_named.Goals as goal
 
 pub loop-k-init : goal.loop-k-init

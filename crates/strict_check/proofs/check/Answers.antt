@@ -9,7 +9,6 @@ use Rattle.strict_rules.specs.Strict.{component_limit, Verdict, verdict}
 use Rattle.strict_check.specs.StrictCheck.{zero_places, check_summary, stored_places}
 use Rattle.strict_check.specs.declared.CheckSummary.{CheckSummary}
 use Rattle.strict_check.proofs.Answers.{count_fits_lem, place_inside, directory_from_start}
-use borrow.Author.Rules.{rules}
 use Rattle.strict_check.proofs.check.Goals as goal
 use Rattle.strict_check.proofs.check.Goals.{After-check_into-s}
 

@@ -3,7 +3,6 @@ use mathlib.Core.Path.{◌≡◌, refl, sym, ap, ◌∙◌}
 use mathlib.Core.List.{List}
 use native.Mathlib.Omega.{arith}
 use lib.ListN.{length, take, replicate}
-use borrow.Author.Tests.{not-true, not-false}
 use Rattle.walk.specs.Walk.{plain_listing}
 use Rattle.region.specs.Region.{region_bytes}
 use Rattle.region.proofs.Regions.{bytes_inside}
@@ -12,7 +11,6 @@ use Rattle.strict_check.specs.StrictCheck.{Scanned, distinct_names_at}
 use Rattle.strict_check.proofs.Answers.{passed_at, refused_untaken, refused_many, digests_are, distinct_said, refused_same_name, accepted_counted}
 use Rattle.strict_check.proofs.Answers.{accepted_stored}
 use Rattle.strict_check.proofs.Answers.{refused_so, zeroed_so}
-use borrow.Author.Rules.{rules}
 use Rattle.strict_check.proofs.check_into.Goals as goal
 use Rattle.strict_check.proofs.check_into.Goals.{After-scan_region-s, After-names_distinct, Else-most-n}
 
@@ -82,7 +80,7 @@ names_distinct-requires c =
     digests_are c.scan_region-s.ensures (most (goal.at.names_distinct-requires c).After-scan_region-s) c.if-s.false (few (goal.at.names_distinct-requires c).Else-most-n) (omega arith) (omega arith)
 
 -- what the comparison of the names says
-distinct-so : (c : After-names_distinct) → 
+distinct-so : (c : After-names_distinct) →
     distinct_names (plain_listing (region (goal.at.After-names_distinct c).After-scan_region-s) c.args.region.align) ≡ c.names_distinct.result
 distinct-so c =
     let a = c.args in

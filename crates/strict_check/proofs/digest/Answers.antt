@@ -2,14 +2,12 @@ use Prim.Native.Nat.{ℕ, ◌+◌, ◌-◌, ◌*◌, ◌/◌, ◌≤◌, ◌<◌
 use native.Mathlib.Nat.{sub-zero, add-zero}
 use native.Mathlib.Omega.{arith}
 use mathlib.Core.Path.{◌≡◌, sym, ap, ◌∙◌}
-use mathlib.Core.Logic.{⊎_elim}
 use mathlib.Core.List.{List}
 use lib.ListN.{length, take, drop}
 use Rattle.bytes_read.specs.Number.{le}
 use Rattle.bytes_read.proofs.Numbers.{le_join, le_within, le_cut}
 use Rattle.strict_check.specs.StrictCheck.{hash_step, digest_from, digest_of}
 use Rattle.strict_check.proofs.Names.{digest_on, digest_two, digest_end}
-use borrow.Author.Rules.{rules}
 use Rattle.strict_check.proofs.digest.Goals as goal
 use Rattle.strict_check.proofs.digest.Goals.{then-i-s, else-i-s}
 
@@ -51,9 +49,9 @@ returns c =
     let h = c.loop-i.h in
     let so_far = c.loop-i.invariant.1 in
     let whole : digest_of s ≡ hash_step c.if-i-s.h (le 8 s c.if-i-s.i) =
-        elim c.if-i-s.branch [
-          then-i-s w ↦ rw (w.i-is, w.h-is, w.hash_step-h.ensures)
-              (so_far ∙ odd-word s i h (omega arith) (omega arith) (w.le64.ensures.value ∙ le_cut 8 s i))
-        | else-i-s w ↦ rw (w.i-is, w.h-is) (so_far ∙ digest_end s (length s - i) i h (omega arith))
-        ] in
+    elim c.if-i-s.branch [
+      | then-i-s w ↦ rw (w.i-is, w.h-is, w.hash_step-h.ensures)
+          (so_far ∙ odd-word s i h (omega arith) (omega arith) (w.le64.ensures.value ∙ le_cut 8 s i))
+      | else-i-s w ↦ rw (w.i-is, w.h-is) (so_far ∙ digest_end s (length s - i) i h (omega arith))
+    ] in
     c.hash_step.ensures ∙ ap (hash_step c.if-i-s.h) c.le64-2.ensures.value ∙ sym whole

@@ -1,11 +1,6 @@
-use Prim.Native.Nat.{◌-◌, ◌≤◌}
-use mathlib.Core.Path.{◌≡◌, refl, sym, ◌∙◌}
-use mathlib.Core.Logic.{⊎_elim}
-use mathlib.Core.Bool.{◌||◌}
+use mathlib.Core.Path.{refl, sym, ◌∙◌}
 use native.Mathlib.Omega.{arith}
-use lib.ListN.{take, drop}
-use Rattle.strict_check.proofs.Names.{among, found_here, found_on, found_end}
-use borrow.Author.Rules.{rules}
+use Rattle.strict_check.proofs.Names.{found_here, found_on, found_end}
 use Rattle.strict_check.proofs.digest_among.Goals as goal
 use Rattle.strict_check.proofs.digest_among.Goals.{then-digests-k, else-digests-k}
 
@@ -19,8 +14,8 @@ loop-k-preserved c =
     let on = found_on a.asked a.digests.now c.loop-k.k a.to c.loop-k.found (omega arith) c.requires.1 in
     let so_far = c.loop-k.invariant.1 in
     elim c.if-digests-k.branch [
-      then-digests-k w ↦ (omega arith, rw w.found-is (so_far ∙ here w.if-digests-k.true))
-    | else-digests-k w ↦ (omega arith, rw w.found-is (so_far ∙ on w.if-digests-k.false))
+      | then-digests-k w ↦ (omega arith, rw w.found-is (so_far ∙ here w.if-digests-k.true))
+      | else-digests-k w ↦ (omega arith, rw w.found-is (so_far ∙ on w.if-digests-k.false))
     ]
 
 pub returns : goal.returns

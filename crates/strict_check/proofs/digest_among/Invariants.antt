@@ -1,11 +1,8 @@
 use Prim.Native.Nat.{◌-◌, ◌≤◌}
-use mathlib.Core.Path.{◌≡◌, refl, sym, ◌∙◌}
-use mathlib.Core.Logic.{⊎_elim}
+use mathlib.Core.Path.{◌≡◌}
 use mathlib.Core.Bool.{◌||◌}
-use native.Mathlib.Omega.{arith}
 use lib.ListN.{take, drop}
-use Rattle.strict_check.proofs.Names.{among, found_here, found_on, found_end}
-use borrow.Author.Rules.{rules}
+use Rattle.strict_check.proofs.Names.{among}
 use Rattle.strict_check.proofs.digest_among.Given as goal
 
 abbrev pub invariant-loop-k : goal.invariant-loop-k

@@ -4,7 +4,6 @@ use mathlib.Core.List.{List}
 use Rattle.component.specs.Component.{judge_numbers, bears_name}
 use Rattle.strict_check.specs.StrictCheck.{has_name}
 use Rattle.strict_check.proofs.Names.{named_not}
-use borrow.Author.Rules.{rules}
 use Rattle.strict_check.proofs.has_name.Goals as goal
 
 pub returns-then-there-asked : goal.returns-then-there-asked

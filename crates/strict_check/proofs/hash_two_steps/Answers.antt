@@ -3,7 +3,6 @@ use native.Mathlib.Omega.{arith}
 use mathlib.Core.Path.{sym, ap, ◌∙◌}
 use Rattle.strict_check.specs.StrictCheck.{hash_step}
 use Rattle.strict_check.proofs.Names.{hash_twice, hash_halves}
-use borrow.Author.Rules.{rules}
 use Rattle.strict_check.proofs.hash_two_steps.Goals as goal
 
 pub returns : goal.returns

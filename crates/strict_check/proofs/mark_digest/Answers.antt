@@ -1,5 +1,4 @@
 use Rattle.strict_check.proofs.Marks.{marked_same, marked_first, marked_several}
-use borrow.Author.Rules.{rules}
 use Rattle.strict_check.proofs.mark_digest.Goals as goal
 
 pub returns-then-was-mark : goal.returns-then-was-mark

@@ -3,11 +3,9 @@ use mathlib.Core.List.{List}
 use Prim.Native.Nat.{ℕ, ◌-◌}
 use native.Mathlib.Omega.{arith}
 use lib.ListN.{take, drop}
-use borrow.Author.Tests.{not-true}
 use Rattle.bytes_read.specs.Lists.{any}
 use Rattle.strict_check.specs.StrictCheck.{name_by_numbers, digest_of, has_name}
 use Rattle.strict_check.proofs.Names.{none_shared}
-use borrow.Author.Rules.{rules}
 use Rattle.strict_check.proofs.name_among.Goals as goal
 
 pub digest_among-requires : goal.digest_among-requires

@@ -2,7 +2,6 @@ use mathlib.Core.Path.{ap, ◌∙◌}
 use mathlib.Core.List.{List}
 use Prim.Native.Nat.{ℕ}
 use Rattle.component.specs.Component.{judge_numbers, name_of}
-use borrow.Author.Rules.{rules}
 use Rattle.strict_check.proofs.name_at_by_numbers.Goals as goal
 
 pub returns : goal.returns

@@ -1,10 +1,7 @@
-use Prim.Native.Nat.{◌+◌, ◌-◌, ◌≤◌}
+use Prim.Native.Nat.{◌+◌, ◌-◌}
 use mathlib.Core.Path.{◌≡◌, refl, sym, ◌∙◌}
-use mathlib.Core.Bool.{true}
 use native.Mathlib.Nat.{sub-zero}
 use native.Mathlib.Omega.{arith}
-use lib.ListN.{length, take, drop}
-use Rattle.strict_check.specs.StrictCheck.{distinct_names_at, AllMarked}
 use Rattle.strict_check.proofs.Names.{distinct_not, distinct_on, distinct_end, distinct_before}
 use borrow.Author.Rules.{rules}
 use Rattle.strict_check.proofs.names_distinct.Goals as goal

@@ -1,12 +1,8 @@
-use Prim.Native.Nat.{◌+◌, ◌-◌, ◌≤◌}
-use mathlib.Core.Path.{◌≡◌, refl, sym, ◌∙◌}
+use Prim.Native.Nat.{◌-◌, ◌≤◌}
+use mathlib.Core.Path.{◌≡◌}
 use mathlib.Core.Bool.{true}
-use native.Mathlib.Nat.{sub-zero}
-use native.Mathlib.Omega.{arith}
 use lib.ListN.{length, take, drop}
 use Rattle.strict_check.specs.StrictCheck.{distinct_names_at, AllMarked}
-use Rattle.strict_check.proofs.Names.{distinct_not, distinct_on, distinct_end, distinct_before}
-use borrow.Author.Rules.{rules}
 use Rattle.strict_check.proofs.names_distinct.Given as goal
 
 -- The loop's invariant: no two from i on have the same name, and their digests are marked.

@@ -2,11 +2,9 @@ use Prim.Native.Nat.{◌+◌, ◌-◌}
 use mathlib.Core.Path.{sym}
 use native.Mathlib.Omega.{arith}
 use lib.ListN.{get_or}
-use borrow.Author.Tests.{not-true}
 use Rattle.strict_check.specs.StrictCheck.{name_by_numbers}
 use Rattle.strict_check.proofs.Names.{none_shared}
 use Rattle.strict_check.proofs.Marks.{all_marked, none_marked}
-use borrow.Author.Rules.{rules}
 use Rattle.strict_check.proofs.repeated_after.Goals as goal
 
 pub returns-then-not-mark_digest-clause-value : goal.returns-then-not-mark_digest-clause-value

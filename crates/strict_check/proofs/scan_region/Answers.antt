@@ -1,7 +1,6 @@
-use Prim.Native.Nat.{ℕ, ◌+◌, ◌-◌, ◌≤◌, ◌<◌}
+use Prim.Native.Nat.{ℕ, ◌+◌, ◌≤◌, ◌<◌}
 use mathlib.Core.Path.{◌≡◌, sym, ap, ◌∙◌}
 use mathlib.Core.Bool.{Bool, true, false, cond, true≢false, false≢true}
-use borrow.Author.Tests.{not-true, not-false}
 use native.Mathlib.Omega.{arith}
 use mathlib.Core.List.{List}
 use lib.ListN.{length, drop, set}
@@ -11,8 +10,7 @@ use Rattle.component.specs.declared.Judged.TheVariants.{WellFormed, IllFormed}
 use Rattle.walk.proofs.Stepping.{unsummed_said, unsummed_header_fits, summed_said, ill_said}
 use Rattle.strict_rules.specs.Strict.{check_refused}
 use Rattle.strict_check.specs.StrictCheck.{digest_of}
-use Rattle.strict_check.proofs.Scans.{Scanning, scan_start, scan_at_most, scan_end, scan_ill, scan_inside, scan_on, scan_later}
-use borrow.Author.Rules.{rules}
+use Rattle.strict_check.proofs.Scans.{scan_start, scan_at_most, scan_end, scan_ill, scan_inside, scan_on, scan_later}
 use Rattle.strict_check.proofs.scan_region.Goals as goal
 use Rattle.strict_check.proofs.scan_region.Goals.{After-checksum_matches, After-judge_numbers-j, After-shared_slice_known-1, Else-not-checksum_matches, In-WellFormed}
 
@@ -29,7 +27,7 @@ said : (c : After-judge_numbers-j)
     → judged (judge_skipping_sum (drop c.loop-p.p c.args.r.now)) ≡ c.judge_numbers-j.result
 said c = unsummed_said c.args.r.now c.loop-p.p (c.loop-p.invariant.checked.found (inside (goal.at.After-judge_numbers-j c).After-judge_numbers-j)).2 c.judge_numbers-j.ensures.value
 
-header : (c : In-WellFormed) → 
+header : (c : In-WellFormed) →
     judged (judge_skipping_sum (drop c.loop-p.p c.args.r.now)) ≡ WellFormed c.in-WellFormed.h
 header c = said (goal.at.In-WellFormed c).After-judge_numbers-j ∙ c.in-WellFormed.is
 
@@ -47,13 +45,13 @@ pub slice_bounds-checksum_matches-end : goal.slice_bounds-checksum_matches-end
 slice_bounds-checksum_matches-end c = omega (arith, fits (goal.at.slice_bounds-checksum_matches-end c).In-WellFormed)
 
 -- what the sum leaves of what the judge says
-judged-by : (c : After-checksum_matches) → 
+judged-by : (c : After-checksum_matches) →
     (b : Bool) → c.checksum_matches.result ≡ b
     → judged (judge (drop c.loop-p.p c.args.r.now)) ≡ cond b (WellFormed c.in-WellFormed.h) IllFormed
 judged-by c b e =
     summed_said c.args.r.now c.loop-p.p _ b (c.loop-p.invariant.checked.found (inside (goal.at.After-checksum_matches c).After-judge_numbers-j)).2 (header (goal.at.After-checksum_matches c).In-WellFormed) (sym c.checksum_matches.ensures.value ∙ e)
 
-well : (c : Else-not-checksum_matches) → 
+well : (c : Else-not-checksum_matches) →
     judged (judge (drop c.loop-p.p c.args.r.now)) ≡ WellFormed c.in-WellFormed.h
 well c = judged-by (goal.at.Else-not-checksum_matches c).After-checksum_matches true c.if-not-checksum_matches.false
 

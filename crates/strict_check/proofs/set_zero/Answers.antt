@@ -1,8 +1,6 @@
-use Prim.Native.Nat.{◌-◌}
-use lib.ListN.{length, replicate, length-replicate, get_or-replicate}
+use lib.ListN.{length, length-replicate, get_or-replicate}
 use native.Mathlib.Omega.{arith}
-use Rattle.bytes_read.proofs.Overwrite.{Over, over_start, over_next, over_all}
-use borrow.Author.Rules.{rules}
+use Rattle.bytes_read.proofs.Overwrite.{over_start, over_next, over_all}
 use Rattle.strict_check.proofs.set_zero.Goals as goal
 
 pub loop-i-init : goal.loop-i-init

@@ -1,8 +1,6 @@
 use Prim.Native.Nat.{◌-◌}
-use lib.ListN.{length, replicate, length-replicate, get_or-replicate}
-use native.Mathlib.Omega.{arith}
-use Rattle.bytes_read.proofs.Overwrite.{Over, over_start, over_next, over_all}
-use borrow.Author.Rules.{rules}
+use lib.ListN.{length, replicate}
+use Rattle.bytes_read.proofs.Overwrite.{Over}
 use Rattle.strict_check.proofs.set_zero.Given as goal
 
 abbrev pub invariant-loop-i : goal.invariant-loop-i

@@ -1,6 +1,5 @@
 use mathlib.Core.Path.{sym}
 use lib.Seq.{set_out}
-use borrow.Author.Rules.{rules}
 use Rattle.strict_check.proofs.store_at.Goals as goal
 
 pub returns-else-n-d : goal.returns-else-n-d

@@ -2,7 +2,6 @@ use mathlib.Core.Path.{sym, ap}
 use lib.ListN.{set}
 use lib.Seq.{set_out}
 use Rattle.strict_check.specs.StrictCheck.{digest_of}
-use borrow.Author.Rules.{rules}
 use Rattle.strict_check.proofs.store_digest.Goals as goal
 
 pub returns-then-n-d : goal.returns-then-n-d

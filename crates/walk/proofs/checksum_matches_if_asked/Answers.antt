@@ -1,7 +1,6 @@
 use mathlib.Core.Path.{sym, ap, ◌∙◌}
 use mathlib.Core.Bool.{true, cond}
 use Rattle.component.specs.Sums.{checksum_matches}
-use borrow.Author.Rules.{rules}
 use Rattle.walk.proofs.checksum_matches_if_asked.Goals as goal
 
 pub returns-then-summed : goal.returns-then-summed

@@ -6,7 +6,6 @@ use Rattle.walk.specs.Walk.{place_count_below}
 use Rattle.walk.proofs.Searching.{behind}
 use Rattle.walk.proofs.Stepping.{guard_end}
 use Rattle.walk.proofs.Unsummed.{next_place_part}
-use borrow.Author.Rules.{rules}
 use Rattle.walk.proofs.next_after_wrong_sum.Goals as goal
 use Rattle.walk.proofs.next_after_wrong_sum.Goals.{After-next_place-n}
 

@@ -1,9 +1,8 @@
 use Prim.Native.Nat.{ℕ, ◌≤◌, ◌<◌, ◌+◌}
-use mathlib.Core.Path.{◌≡◌, refl, sym, ◌∙◌}
+use mathlib.Core.Path.{◌≡◌, sym, ◌∙◌}
 use native.Mathlib.Omega.{arith}
 use Rattle.walk.specs.Walk.{magic_at, next_magic}
 use Rattle.walk.proofs.Searching.{magic_end, magic_rest, no_magic_past, next_none, next_here, next_not, no_magic_end, sooner_found, sooner_none}
-use borrow.Author.Rules.{rules}
 use Rattle.walk.proofs.next_magic.Goals as goal
 use Rattle.walk.proofs.next_magic.Goals.{After-smaller-stop, After-starts_with_magic, Then-stop-from-2}
 
@@ -46,12 +45,12 @@ returns-then-stop-from-clause-value c = sym (late (goal.at.returns-then-stop-fro
 pub returns-then-starts_with_magic-clause-value : goal.returns-then-starts_with_magic-clause-value
 returns-then-starts_with_magic-clause-value c =
     let a = c.args in sym (next_here a.r.now a.align (pos (goal.at.returns-then-starts_with_magic-clause-value c).After-smaller-stop) a.from a.below (omega (arith, most (goal.at.returns-then-starts_with_magic-clause-value c).After-smaller-stop, c.if-stop-from.false))
-          (here (goal.at.returns-then-starts_with_magic-clause-value c).After-starts_with_magic ∙ c.if-starts_with_magic.true))
+    (here (goal.at.returns-then-starts_with_magic-clause-value c).After-starts_with_magic ∙ c.if-starts_with_magic.true))
 
 pub returns-then-stop-from-2-clause-value : goal.returns-then-stop-from-2-clause-value
 returns-then-stop-from-2-clause-value c =
     let a = c.args in sym (next_not a.r.now a.align (pos (goal.at.returns-then-stop-from-2-clause-value c).After-smaller-stop) a.from a.below (omega (arith, most (goal.at.returns-then-stop-from-2-clause-value c).After-smaller-stop, c.if-stop-from.false)) (here (goal.at.returns-then-stop-from-2-clause-value c).After-starts_with_magic ∙ c.if-starts_with_magic.false)
-          ∙ late (goal.at.returns-then-stop-from-2-clause-value c).After-smaller-stop (a.from + a.align) (far (goal.at.returns-then-stop-from-2-clause-value c).Then-stop-from-2))
+    ∙ late (goal.at.returns-then-stop-from-2-clause-value c).After-smaller-stop (a.from + a.align) (far (goal.at.returns-then-stop-from-2-clause-value c).Then-stop-from-2))
 
 pub returns-then-q-stop-clause-value : goal.returns-then-q-stop-clause-value
 returns-then-q-stop-clause-value c =
@@ -63,4 +62,4 @@ pub returns-clause-value : goal.returns-clause-value
 returns-clause-value c =
     let a = c.args in
     let f : c.smaller-stop.result ≤ next_magic a.r.now a.align a.from c.smaller-stop.result = omega (arith, c.search-q.ensures, c.if-q-stop.false) in sym (sooner_none a.r.now a.align (pos (goal.at.returns-clause-value c).After-smaller-stop) a.from c.smaller-stop.result a.below (most (goal.at.returns-clause-value c).After-smaller-stop)
-          (no_magic_past a.r.now a.below c.smaller-stop.result c.smaller-stop.ensures) f)
+    (no_magic_past a.r.now a.below c.smaller-stop.result c.smaller-stop.ensures) f)

@@ -1,8 +1,7 @@
 use Prim.Native.Nat.{◌+◌}
-use mathlib.Core.Path.{refl, sym}
+use mathlib.Core.Path.{sym}
 use native.Mathlib.Omega.{arith}
 use Rattle.walk.proofs.Searching.{next_past}
-use borrow.Author.Rules.{rules}
 use Rattle.walk.proofs.next_magic_after.Goals as goal
 
 pub returns-then-below-p-clause-value : goal.returns-then-below-p-clause-value

@@ -1,4 +1,3 @@
-use borrow.Author.Rules.{rules}
 use Rattle.walk.proofs.next_magic_if_guarded.Goals as goal
 
 pub returns-then-guarded : goal.returns-then-guarded

@@ -1,10 +1,9 @@
 use Prim.Native.Nat.{◌+◌, ◌-◌, ◌%◌, ◌≤◌, ◌<◌}
-use mathlib.Core.Path.{refl, sym, ◌∙◌}
+use mathlib.Core.Path.{sym, ◌∙◌}
 use native.Mathlib.Omega.{arith}
 use native.Mathlib.Nat.{mod-lt, min-eq_left, min-eq_right}
 use lib.ListN.{length}
 use Rattle.walk.proofs.Rounding.{next_place_none, next_place_past, next_place_is, next_place_between}
-use borrow.Author.Rules.{rules}
 use Rattle.walk.proofs.next_place.Goals as goal
 use Rattle.walk.proofs.next_place.Goals.{Else-align-eq0}
 

@@ -1,9 +1,6 @@
 use Prim.Native.Nat.{◌-◌}
-use mathlib.Core.Path.{◌≡◌, refl, sym, ◌∙◌}
-use native.Mathlib.Omega.{arith}
+use mathlib.Core.Path.{◌≡◌}
 use Rattle.walk.specs.Walk.{next_magic}
-use Rattle.walk.proofs.Searching.{magic_eight_bytes, next_here, next_not, next_end}
-use borrow.Author.Rules.{rules}
 use Rattle.walk.proofs.search.Given as goal
 
 abbrev pub invariant-loop-p : goal.invariant-loop-p

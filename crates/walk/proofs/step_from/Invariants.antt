@@ -1,15 +1,7 @@
-use Prim.Native.Nat.{◌+◌, ◌-◌, ◌≤◌}
-use mathlib.Core.Path.{◌≡◌, refl, sym, ap, ◌∙◌}
-use native.Mathlib.Omega.{arith}
-use lib.ListN.{length, drop}
-use Rattle.component.specs.Component.{judge_skipping_sum, judged}
-use Rattle.component.specs.declared.Judged.TheVariants.{WellFormed}
-use Rattle.component.proofs.Judging.{judged_none}
-use Rattle.walk.specs.Walk.{pick_with_sum_if, step_answer}
-use Rattle.walk.proofs.Searching.{next_above}
-use Rattle.walk.proofs.Stepping.{Searched, unsummed_said, unsummed_header_fits, pick_for_searched, searched_on, ill_formed, went, took, wrong, step_past}
-use Rattle.walk.proofs.Stepping.{guard_above}
-use borrow.Author.Rules.{rules}
+use Prim.Native.Nat.{◌-◌}
+use lib.ListN.{length}
+use Rattle.walk.specs.Walk.{pick_with_sum_if}
+use Rattle.walk.proofs.Stepping.{Searched}
 use Rattle.walk.proofs.step_from.Given as goal
 
 abbrev pub invariant-loop-p : goal.invariant-loop-p

@@ -6,9 +6,6 @@ use lib.ListN.{take, drop}
 use Rattle.component.specs.Sums.{checksum_matches}
 use Rattle.cbfs_types.specs.declared.Taken.{Taken}
 use native.Mathlib.Omega.{arith}
-use borrow.Author.Tests.{not-true, not-false}
-use borrow.Author.Rules.{rules}
-use Rattle.walk_lookup.proofs.bears_with_sum_at.Reads as reads
 use Rattle.walk_lookup.proofs.bears_with_sum_at.Goals as goal
 
 -- the sum of the span, where the component has the name

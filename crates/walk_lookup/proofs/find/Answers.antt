@@ -1,5 +1,4 @@
-use mathlib.Core.Path.{refl, ◌∙◌}
-use borrow.Author.Rules.{rules}
+use mathlib.Core.Path.{◌∙◌}
 use Rattle.walk_lookup.proofs.find.Goals as goal
 
 pub returns-then-guarded-clause-value : goal.returns-then-guarded-clause-value
