@@ -1,4 +1,4 @@
-// The proved calls of crate `bench_calls`, as the archive exports them. A slice passes as a pointer and a length.
+// The proved calls of crate `bench_calls`, as the archive of `bench_calls_c` exports them. A slice passes as a pointer and a length.
 extern "C" {
     fn bench_plain_count(image: *const u8, length: usize) -> u64;
     fn bench_guarded_count(image: *const u8, length: usize) -> u64;
