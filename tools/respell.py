@@ -68,6 +68,8 @@ def main():
             for theirs, place in LIBRARY.items():
                 if path.endswith("crates/" + place):
                     new = re.sub(r"(?<!" + LETTER + r")" + table[theirs] + r"(?!" + LETTER + r")", theirs, new)
+            # Two names that are words in comments too.
+            new = new.replace("well_formed_lem header", "well-formed header").replace("ill_formed header", "ill-formed header")
             if name.endswith(".rt"):
                 new = KEPT.sub(r"\1.exit.now ≡ \1.entry.now", new)
             if new != old:

@@ -6,7 +6,7 @@
 ghost use Rattle.std.specs.Prelude.{◌≡◌, ◌%◌, ◌<◌};
 ghost use Rattle.component.specs.Sums.{total};
 ghost use Rattle.cbfs_types.specs.declared.Refusal.{Refusal};
-ghost use Rattle.master_header.specs.Master.{master as masterOf};
+ghost use Rattle.master_header.specs.Master.{master as master_of};
 ghost use Rattle.cbfs_types.specs.declared.Master.TheVariants.{Read};
 ghost use Rattle.cbfs_types.specs.declared.Edited.TheVariants.{Refused as EditRefused};
 ghost use Rattle.image_find.specs.ImageFind.{image_find};
@@ -43,7 +43,7 @@ fn value_or(number: u32, place: usize, value: usize) -> u64
 
 // How many components a walk lists: its steps from the region's start to none left. None of them is refused.
 fn count_steps(guarded: bool, image: &[u8], region: Region) -> u64
-    requires { masterOf image.now ≡ Read region }
+    requires { master_of image.now ≡ Read region }
     ensures { result ≡ count_of guarded image.now }
 {
     let mut n = 0;

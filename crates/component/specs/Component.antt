@@ -58,7 +58,7 @@ component_of s = record {
   content = take (len_of s) (drop (offset_of s) s);
 }
 
--- What the numbers and the name field of a well_formed_lem header with the offset o and the length l meet: document 01's tests.
+-- What the numbers and the name field of a well-formed header with the offset o and the length l meet: document 01's tests.
 unfoldable pub number_tests : List ℕ → ℕ → ℕ → List Bool
 number_tests s o l =
     leb 24 (length s)
@@ -69,7 +69,7 @@ number_tests s o l =
     ∷ field_fits (take (o - 24) (drop 24 s))
     ∷ []
 
--- What a well_formed_lem header meets: these, and no wrong sum of its span is stated (request 5).
+-- What a well-formed header meets: these, and no wrong sum of its span is stated (request 5).
 unfoldable pub header_tests : List ℕ → ℕ → ℕ → List Bool
 header_tests s o l = number_tests s o l ++ (checksum_matches (take (o + l) s) ∷ [])
 

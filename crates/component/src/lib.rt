@@ -6,7 +6,7 @@ ghost use Rattle.std.specs.Prelude.{◌≡◌, ◌+◌, ◌%◌};
 ghost use Rattle.bytes_read.specs.Tests.{all};
 ghost use Rattle.component.specs.Names.{is_zero, name_fits, name_length};
 ghost use Rattle.component.specs.Sums.{total, checksum_byte_sum, checksum_matches};
-ghost use Rattle.component.specs.Component.{starts_with_magic, judge_numbers, judge_after_magic, judge as judgeOf};
+ghost use Rattle.component.specs.Component.{starts_with_magic, judge_numbers, judge_after_magic, judge as judge_of};
 ghost use Rattle.component.specs.Component.{judged, name_of, content_of, bears_name};
 
 use cbfs_types::{FIELD_UNIT, HEADER_LEN, Header, NAME_MAX, OFFSET_MAX, OFFSET_MIN};
@@ -200,7 +200,7 @@ pub fn judge_after_magic(s: &[u8]) -> Judged
 
 // The component that stands at the start of the part, if one does.
 pub fn judge(s: &[u8]) -> Judged
-    ensures value { result ≡ judged (judgeOf s.now) }
+    ensures value { result ≡ judged (judge_of s.now) }
     ensures kept { s.exit.now ≡ s.entry.now }
 {
     if !starts_with_magic(s) {
@@ -211,7 +211,7 @@ pub fn judge(s: &[u8]) -> Judged
 
 // The name of the component that stands at the start of the part; empty where none does.
 pub fn name(s: &[u8]) -> &[u8]
-    ensures result_value { result.now ≡ name_of (judgeOf s.now) }
+    ensures result_value { result.now ≡ name_of (judge_of s.now) }
     ensures kept { s.exit.now ≡ s.entry.now }
 {
     let j = judge(s);
@@ -262,7 +262,7 @@ pub fn is_named(s: &[u8], name: &[u8]) -> bool
 
 // The content of the component that stands at the start of the part; empty where none does.
 pub fn content(s: &[u8]) -> &[u8]
-    ensures result_value { result.now ≡ content_of (judgeOf s.now) }
+    ensures result_value { result.now ≡ content_of (judge_of s.now) }
     ensures kept { s.exit.now ≡ s.entry.now }
 {
     let j = judge(s);

@@ -6,7 +6,7 @@
 ghost use Rattle.std.specs.Prelude.{◌≡◌, length, leb};
 ghost use Rattle.region.specs.Refusals.{first_failed};
 ghost use Rattle.fmap_area.specs.Names.{area_name_of, area_name_at};
-ghost use Rattle.fmap_area.specs.Area.{unused_area, area_in, end_of, area_has_name, extent_fits, disjoint as disjointOf, contains as containsOf};
+ghost use Rattle.fmap_area.specs.Area.{unused_area, area_in, end_of, area_has_name, extent_fits, disjoint as disjoint_of, contains as contains_of};
 ghost use Rattle.fmap_area.specs.Area.{cross as cross_of, contains_map, area_tests};
 
 use cbfs_types::{AREA_NAME_MAX, Area, FMAP_AREA_LEN, FMAP_STRLEN};
@@ -114,7 +114,7 @@ pub fn refusal_number(s: &[u8], size: usize, a: Area) -> u32
 
 // Two areas share no byte.
 fn disjoint(a: Area, b: Area) -> bool
-    ensures { result ≡ disjointOf a b }
+    ensures { result ≡ disjoint_of a b }
 {
     if ends_by(a, b.offset) {
         return true;
@@ -124,7 +124,7 @@ fn disjoint(a: Area, b: Area) -> bool
 
 // The area a holds the area b.
 fn contains(a: Area, b: Area) -> bool
-    ensures { result ≡ containsOf a b }
+    ensures { result ≡ contains_of a b }
 {
     if b.offset < a.offset {
         return false;

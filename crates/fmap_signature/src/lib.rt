@@ -2,7 +2,7 @@
 #![tactic(auto)]
 
 ghost use Rattle.std.specs.Prelude.{◌≡◌, length};
-ghost use Rattle.fmap_signature.specs.Signatures.{has_signature, signatures as signaturesOf, signatures_from, first_or, signature_answer};
+ghost use Rattle.fmap_signature.specs.Signatures.{has_signature, signatures as signatures_of, signatures_from, first_or, signature_answer};
 
 use cbfs_types::{FMAP_STRIDE, SignatureSearch};
 
@@ -36,7 +36,7 @@ fn next_signature(s: &[u8], from: usize) -> usize
 
 // The signatures at multiples of 64: the search for a second one goes on where the first was found.
 pub fn signatures(s: &[u8]) -> SignatureSearch
-    ensures value { result ≡ signature_answer (signaturesOf s.now) }
+    ensures value { result ≡ signature_answer (signatures_of s.now) }
     ensures kept { s.exit.now ≡ s.entry.now }
 {
     let p = next_signature(s, 0);

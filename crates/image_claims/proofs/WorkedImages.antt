@@ -72,7 +72,7 @@ image slot offset =
     ++ (be_bytes 4 0x4F524243 ++ (be_bytes 4 0x31313131 ++ (be_bytes 4 228 ++ (be_bytes 4 36 ++ (be_bytes 4 64 ++ (be_bytes 4 offset
     ++ (replicate 8 0xFF ++ le_bytes 4 0xFFFFFFDC)))))))))
 
--- The second slot has a component b, with its sum, 816; a magic with no well_formed_lem header; a component a; a component b with another sum.
+-- The second slot has a component b, with its sum, 816; a magic with no well-formed header; a component a; a component b with another sum.
 
 abbrev fine : List ℕ
 fine = image (summed 0x62 816) 64

@@ -3,14 +3,14 @@
 #![tactic(auto)]
 
 ghost use Rattle.std.specs.Prelude.{◌≡◌};
-ghost use Rattle.master_header.specs.Master.{master as masterOf};
+ghost use Rattle.master_header.specs.Master.{master as master_of};
 ghost use Rattle.image_walk.specs.ImageWalk.{image_step, plain_step, guarded_step, strict_check};
 
 use cbfs_types::{Directory, Master, Step};
 
 // The region that holds the image's components, or refusals 1 to 8.
 pub fn region(image: &[u8]) -> Master
-    ensures value { result ≡ masterOf image.now }
+    ensures value { result ≡ master_of image.now }
     ensures kept { image.exit.now ≡ image.entry.now }
 {
     master_header::read(image)

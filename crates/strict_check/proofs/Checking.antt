@@ -65,7 +65,7 @@ module _ (r : List ℕ) (a : ℕ) (done : List Entry) (p : ℕ) (inv : Checked r
     pos : 0 < a
     pos = (inv.found inside).0
 
-    -- An ill_formed header is untaken.
+    -- An ill-formed header is untaken.
     pub checked_ill : judge (drop p r) ≡ none → (most : ℕ) → verdict most r a ≡ check_refused 12 p
     checked_ill ill most = untaken_verdict most r a p (inv.none_untaken ∙ first_ill r a pos p (inv.found inside).1 inside (inv.found inside).2 ill)
 

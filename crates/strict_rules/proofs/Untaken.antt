@@ -193,7 +193,7 @@ search_at_place r a pos n b = by_places r a pos b (λ n. Place a n → next_magi
 
 -- At a place p with the magic.
 module _ (r : List ℕ) (a : ℕ) (pos : 0 < a) (p : ℕ) (at : Place a p) (inside : p < length r) (magic : magic_at r p ≡ true) where
-  -- An ill_formed header: p is untaken.
+  -- An ill-formed header: p is untaken.
   module _ (ill : judge (drop p r) ≡ none) where
     pub list_ill : plain_from r a p ≡ plain_from r a (p + a)
     unfolding plain_pick
