@@ -300,7 +300,8 @@ pub fn map_at(s: &[u8], at: usize, size: usize) -> FlashMap
     with_areas(s, map_header_at(s, at, size))
 }
 
-// The flash map of an image, or the refusal.
+// The flash map of an image, or the refusal. It is compiled into its caller, so that the map is made where it is kept, and not copied there: for the stack.
+#[inline(always)]
 pub fn read(image: &[u8]) -> FlashMap
     ensures value { result ≡ fmap image.now }
     ensures kept { image.exit.now ≡ image.entry.now }

@@ -31,10 +31,10 @@ fn origin(t: Taken) -> usize
     t.place
 }
 
-// Test 26 of a segment after the first n of `all`.
-fn disjoint_from_all(all: [Segment; SEGMENTS_MAX], n: usize, x: Segment) -> bool
+// Test 26 of a segment after the first n of `all`, which is lent, for the stack.
+fn disjoint_from_all(all: &[Segment; SEGMENTS_MAX], n: usize, x: Segment) -> bool
     requires { n ≤ 16 }
-    ensures { result ≡ disjoint_from_all x (take n all) }
+    ensures { result ≡ disjoint_from_all x (take n all.now) }
 {
     let mut i = 0;
     while i < n {
@@ -205,7 +205,7 @@ fn records(s: &[u8], at: usize, origin: usize) -> PayloadPlan
         match j {
             JudgedRecord::Refused(n) => return refused_payload(region::refusal_by(n)),
             JudgedRecord::Fits(x) => {
-                if !disjoint_from_all(all, i, x) {
+                if !disjoint_from_all(&all, i, x) {
                     return refused_payload(region::refusal_by(26));
                 }
                 all[i] = x;

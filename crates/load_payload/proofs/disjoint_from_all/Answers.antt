@@ -9,18 +9,18 @@ loop-i-init c = (search rules, refl)
 pub returns-then-not-disjoint_targets : goal.returns-then-not-disjoint_targets
 returns-then-not-disjoint_targets c =
     let a = c.args in
-    sym (c.loop-i.invariant.1 ∙ disjoint_not c.args.all a.n (search rules) a.x c.loop-i.i (search rules) refl
+    sym (c.loop-i.invariant.1 ∙ disjoint_not c.args.all.now a.n (search rules) a.x c.loop-i.i (search rules) refl
     c.disjoint_targets.ensures c.if-not-disjoint_targets.true)
 
 pub loop-i-preserved : goal.loop-i-preserved
 loop-i-preserved c =
     let a = c.args in (
       search rules,
-      c.loop-i.invariant.1 ∙ disjoint_here c.args.all a.n (search rules) a.x c.loop-i.i (search rules) refl
+      c.loop-i.invariant.1 ∙ disjoint_here c.args.all.now a.n (search rules) a.x c.loop-i.i (search rules) refl
           c.disjoint_targets.ensures c.if-not-disjoint_targets.false,
     )
 
 pub returns : goal.returns
 returns c =
     let a = c.args in
-    sym (c.loop-i.invariant.1 ∙ disjoint_end c.args.all a.n (search rules) a.x c.loop-i.i (search rules))
+    sym (c.loop-i.invariant.1 ∙ disjoint_end c.args.all.now a.n (search rules) a.x c.loop-i.i (search rules))
