@@ -1,11 +1,11 @@
 -- The steps of a listing, counted one by one.
+use Rattle.std.specs.Prelude.{Option, Some, None, Result, Ok, Err}
 use Prim.Native.Nat.{ℕ, zero, suc, ◌+◌, ◌≤◌, ◌<◌}
 use native.Mathlib.Nat.{zero-add}
 use native.Mathlib.Omega.{arith}
 use mathlib.Core.Path.{◌≡◌, refl, ◌∙◌}
 use mathlib.Core.List.{List, ◌∷◌, map}
 use mathlib.Core.Bool.{Bool}
-use mathlib.Core.Option.{Option, some, none}
 use lib.ListN.{length, length-map}
 use Rattle.walk.specs.Walk.{Entry, Pick, pick_of, next, step, follow, steps, listing_from}
 use Rattle.cbfs_types.specs.declared.Taken.{Taken}
@@ -13,11 +13,8 @@ use Rattle.region.specs.Region.{region_bytes}
 use Rattle.cbfs_types.specs.declared.Region.{Region}
 use Rattle.cbfs_types.specs.declared.Refusal.{Refusal}
 use Rattle.master_header.specs.Master.{master}
-use Rattle.cbfs_types.specs.declared.Master.TheVariants.{Read}
 use Rattle.master_header.proofs.Facts.{Known, known}
 use Rattle.region_read.specs.RegionRead.{taken_in, step_in, Walked, walk_ended, walk_stepped}
-use Rattle.cbfs_types.specs.declared.Step.{Step}
-use Rattle.cbfs_types.specs.declared.Step.TheVariants.{Took, NoneLeft, Refused}
 use Rattle.region_read.proofs.Listing.{listing_walked}
 use Rattle.image_claims.proofs.Images.{bytes_length}
 use Rattle.bench_calls.specs.Calls.{listed, count_of}
@@ -29,18 +26,18 @@ steps_few pick r a zero n = omega arith
 steps_few pick r a (suc k) n = go (step pick r a n) (λ m. steps_few pick r a k m)
   where
     go : (o : Option Entry) → ((m : ℕ) → length (steps pick r a k m) ≤ k) → length (follow (λ m. steps pick r a k m) (next r a) o) ≤ suc k
-    go none ih = omega arith
-    go (some t) ih = omega (arith, ih (next r a t))
+    go None ih = omega arith
+    go (Some t) ih = omega (arith, ih (next r a t))
 
 -- n components are counted, the steps from `from` on give the rest, and all together are as many as `total`.
-pub record Counting (call : ℕ → Step) (total from n : ℕ) : Type 0 where
+pub record Counting (call : ℕ → Result (Option Taken) Refusal) (total from n : ℕ) : Type 0 where
   pub rest : List Taken
   pub walked : Walked call from rest
   pub sum : n + length rest ≡ total
 
-module _ {call : ℕ → Step} {total from n : ℕ} where
+module _ {call : ℕ → (Result (Option Taken) Refusal)} {total from n : ℕ} where
   -- A step that takes a component leaves one less to count.
-  pub count_on : (t : Taken) → call from ≡ Took t → Counting call total from n → (n < total) × Counting call total t.next (n + 1)
+  pub count_on : (t : Taken) → call from ≡ Ok (Some t) → Counting call total from n → (n < total) × Counting call total t.next (n + 1)
   count_on t e c = go c.rest c.walked c.sum
     where
       go : (ts : List Taken) → Walked call from ts → n + length ts ≡ total → (n < total) × Counting call total t.next (n + 1)
@@ -48,7 +45,7 @@ module _ {call : ℕ → Step} {total from n : ℕ} where
       go (u ∷ us) (walk_stepped q w) s = let same : u ≡ t = cc in (omega arith, record { rest = us; walked = rw same at w; sum = omega arith })
 
   -- Where none is left, all are counted.
-  pub count_end : call from ≡ NoneLeft → Counting call total from n → n ≡ total
+  pub count_end : call from ≡ (Ok None) → Counting call total from n → n ≡ total
   count_end e c = go c.rest c.walked c.sum
     where
       go : (ts : List Taken) → Walked call from ts → n + length ts ≡ total → n ≡ total
@@ -56,7 +53,7 @@ module _ {call : ℕ → Step} {total from n : ℕ} where
       go ts (walk_stepped q w) s = let z : ◌≡◌ {A = ℕ} 0 1 = cc in absurd (omega arith)
 
   -- No step is refused.
-  pub count_unrefused : (r : Refusal) → call from ≡ Refused r → Counting call total from n → ⊥
+  pub count_unrefused : (r : Refusal) → call from ≡ Err r → Counting call total from n → ⊥
   count_unrefused r e c = go c.rest c.walked
     where
       go : (ts : List Taken) → Walked call from ts → ⊥
@@ -64,7 +61,7 @@ module _ {call : ℕ → Step} {total from n : ℕ} where
       go ts (walk_stepped q w) = let z : ◌≡◌ {A = ℕ} 0 1 = cc in omega arith
 
 -- An image i that is read, and its region g.
-module _ (w : Bool) (i : List ℕ) (g : Region) (read : master i ≡ Read g) where
+module _ (w : Bool) (i : List ℕ) (g : Region) (read : master i ≡ Ok g) where
   facts : Known i g
   facts = known i g read
 

@@ -1,28 +1,24 @@
 // The calls that `bench/` times, and whose stack it measures, exported to plain Rust: one or more for each public call of the library.
 // Each answers one number, for any bytes.
 // A count, a length or a place stands in the lower 32 bits. A refusal has its number in the upper 32, and the place that it reports in the lower.
+// They are the C interface, one name for each call: twins of both walks stay two, and `bench_calls_c` exports each in a static library.
 #![tactic(auto)]
 
 ghost use Rattle.std.specs.Prelude.{◌≡◌, ◌%◌, ◌<◌};
 ghost use Rattle.component.specs.Sums.{total};
 ghost use Rattle.cbfs_types.specs.declared.Refusal.{Refusal};
 ghost use Rattle.master_header.specs.Master.{master as master_of};
-ghost use Rattle.cbfs_types.specs.declared.Master.TheVariants.{Read};
-ghost use Rattle.cbfs_types.specs.declared.Edited.TheVariants.{Refused as EditRefused};
 ghost use Rattle.image_find.specs.ImageFind.{image_find};
 ghost use Rattle.image_walk.specs.ImageWalk.{image_step};
 ghost use Rattle.image_edit.specs.ImageEdit.{image_add, image_replace, image_remove};
-ghost use Rattle.bench_calls.specs.Calls.{encoded_refusal, value_or, count_of, plain_count, guarded_count, place_found, plain_place, guarded_place};
-ghost use Rattle.bench_calls.specs.Calls.{strict_count, strict_place, encoded_edit, add_place, replace_place, remove_place, region_start};
+ghost use Rattle.bench_calls.specs.Calls.{encoded_refusal, encoded, count_of, plain_count, guarded_count, place_found, plain_place, guarded_place};
+ghost use Rattle.bench_calls.specs.Calls.{strict_count, strict_place, map_offset, add_place, replace_place, remove_place, region_start};
 ghost use Rattle.bench_calls.specs.Calls.{taken_by, plain_taken, guarded_taken, plain_length, guarded_length, name_length_at, content_length};
 ghost use Rattle.bench_calls.specs.Calls.{stage_source, payload_count, segment_source, area_count, area_offset, offset_at, area_name_length, signature_place};
 
-use cbfs_types::{
-    AREAS_MAX, Area, COMPONENTS_MAX, Edited, Found, Master, Refusal, Region, SEGMENTS_MAX,
-    SignatureSearch, Step,
-};
+use cbfs_types::{Area, FlashMap, Refusal, Region, Taken};
 
-// A refusal as one number.
+// A refusal as one number. It is arithmetic by its definition.
 fn encoded_refusal(r: Refusal) -> u64
     requires { r.place < 4294967296 }
     ensures { result ≡ encoded_refusal r }
@@ -30,49 +26,39 @@ fn encoded_refusal(r: Refusal) -> u64
     r.number as u64 * 4294967296 + r.place as u64
 }
 
-// The value, or the refusal where the number is not 0.
-fn value_or(number: u32, place: usize, value: usize) -> u64
-    requires { place < 4294967296 }
-    ensures { result ≡ value_or number place value }
+// A count, a length or a place that a call answers, or its refusal, as one number.
+fn encoded(answer: Result<usize, Refusal>) -> u64
+    requires { (r : Refusal) → answer ≡ Err r → r.place < 4294967296 }
+    ensures { result ≡ encoded answer }
 {
-    if number == 0 {
-        return value as u64;
+    match answer {
+        Ok(n) => n as u64,
+        Err(r) => encoded_refusal(r),
     }
-    encoded_refusal(Refusal { number, place })
 }
 
-// How many components a walk lists: its steps from the region's start to none left. None of them is refused.
+// How many components a walk lists: its steps from the region's start to none left. None of them is refused. The loop stays a `while`: each step is a call
+// of its own, which is what is timed.
 fn count_steps(guarded: bool, image: &[u8], region: Region) -> u64
-    requires { master_of image.now ≡ Read region }
+    requires { master_of image.now ≡ Ok region }
     ensures { result ≡ count_of guarded image.now }
 {
     let mut n = 0;
     let mut from = region.start;
-    loop {
-        let s = region_read::step_in(guarded, image, region, from);
-        match s {
-            Step::Took(t) => {
-                n += 1;
-                from = t.next;
-            }
-            Step::NoneLeft => {
-                return n;
-            }
-            Step::Refused(_) => {
-                return n;
-            }
-        }
+    while let Ok(Some(t)) = region_read::step_in(guarded, image, region, from) {
+        n += 1;
+        from = t.next;
     }
+    n
 }
 
 // How many components a walk of the image lists, or the refusal.
 fn count(guarded: bool, image: &[u8]) -> u64
     ensures { result ≡ count_of guarded image.now }
 {
-    let m = cbfs::region(image);
-    match m {
-        Master::Read(g) => count_steps(guarded, image, g),
-        Master::Refused(r) => encoded_refusal(r),
+    match cbfs::region(image) {
+        Ok(region) => count_steps(guarded, image, region),
+        Err(r) => encoded_refusal(r),
     }
 }
 
@@ -94,8 +80,8 @@ pub extern "C" fn bench_guarded_count(image: &[u8]) -> u64
     count(true, image)
 }
 
-// The lookup of either walk.
-fn find(guarded: bool, image: &[u8], name: &[u8]) -> Found
+// The lookup of either walk: the calls that are timed are two.
+fn find(guarded: bool, image: &[u8], name: &[u8]) -> Result<Taken, Refusal>
     ensures { result ≡ image_find guarded image.now name.now }
 {
     if guarded {
@@ -108,11 +94,7 @@ fn find(guarded: bool, image: &[u8], name: &[u8]) -> Found
 fn place(guarded: bool, image: &[u8], name: &[u8]) -> u64
     ensures { result ≡ place_found guarded image.now name.now }
 {
-    let f = find(guarded, image, name);
-    match f {
-        Found::At(t) => t.place as u64,
-        Found::Refused(r) => encoded_refusal(r),
-    }
+    encoded(find(guarded, image, name).map(|t| t.place))
 }
 
 // The place of the first bearer of the name in the plain listing, or refusals 1 to 8 and 10.
@@ -139,8 +121,7 @@ pub extern "C" fn bench_strict_count(image: &[u8]) -> u64
     ensures value { result ≡ strict_count image.now }
     ensures kept { image.exit.now ≡ image.entry.now }
 {
-    let d = cbfs::strict_check(image);
-    value_or(d.number, d.place, d.count)
+    encoded(cbfs::strict_check(image).map(|d| d.count))
 }
 
 // The k-th place of the directory, 0 past its end, or the same refusals. The directory is kept for it: where nobody reads its array, the
@@ -150,21 +131,9 @@ pub extern "C" fn bench_strict_place(image: &[u8], k: usize) -> u64
     ensures value { result ≡ strict_place image.now k }
     ensures kept { image.exit.now ≡ image.entry.now }
 {
-    let d = cbfs::strict_check(image);
-    if k < COMPONENTS_MAX {
-        return value_or(d.number, d.place, d.places[k]);
-    }
-    value_or(d.number, d.place, 0)
-}
-
-// The place of the component that an edit wrote or removed, or its refusal.
-fn encoded_edit(e: Edited) -> u64
-    requires { (r : Refusal) → e ≡ EditRefused r → r.place < 4294967296 }
-    ensures { result ≡ encoded_edit e }
-{
-    match e {
-        Edited::Done(p) => p as u64,
-        Edited::Refused(x) => encoded_refusal(x),
+    match cbfs::strict_check(image) {
+        Ok(d) => d.places.get(k).copied().unwrap_or(0) as u64,
+        Err(r) => encoded_refusal(r),
     }
 }
 
@@ -175,8 +144,7 @@ pub extern "C" fn bench_add(image: &mut [u8], name: &[u8], kind: u32, content: &
     ensures bytes { image.new ≡ (image_add image.old name.now kind content.now).image }
     ensures kept { (name.exit.now ≡ name.entry.now) × (content.exit.now ≡ content.entry.now) }
 {
-    let e = cbfs::add(image, name, kind, content);
-    encoded_edit(e)
+    encoded(cbfs::add(image, name, kind, content))
 }
 
 // The place of the component that is replaced, or refusals 1 to 8, 12, 13, 11, 10, 16 and 17.
@@ -186,8 +154,7 @@ pub extern "C" fn bench_replace(image: &mut [u8], name: &[u8], content: &[u8]) -
     ensures bytes { image.new ≡ (image_replace image.old name.now content.now).image }
     ensures kept { (name.exit.now ≡ name.entry.now) × (content.exit.now ≡ content.entry.now) }
 {
-    let e = cbfs::replace(image, name, content);
-    encoded_edit(e)
+    encoded(cbfs::replace(image, name, content))
 }
 
 // The place of the component that is removed, or refusals 1 to 8, 12, 13, 11 and 10.
@@ -197,8 +164,7 @@ pub extern "C" fn bench_remove(image: &mut [u8], name: &[u8]) -> u64
     ensures bytes { image.new ≡ (image_remove image.old name.now).image }
     ensures kept { name.exit.now ≡ name.entry.now }
 {
-    let e = cbfs::remove(image, name);
-    encoded_edit(e)
+    encoded(cbfs::remove(image, name))
 }
 
 // Where the region begins, or refusals 1 to 8.
@@ -207,15 +173,11 @@ pub extern "C" fn bench_region(image: &[u8]) -> u64
     ensures value { result ≡ region_start image.now }
     ensures kept { image.exit.now ≡ image.entry.now }
 {
-    let m = cbfs::region(image);
-    match m {
-        Master::Read(g) => g.start as u64,
-        Master::Refused(x) => encoded_refusal(x),
-    }
+    encoded(cbfs::region(image).map(|g| g.start))
 }
 
-// A step of either walk.
-fn step(guarded: bool, image: &[u8], from: usize) -> Step
+// A step of either walk: the calls that are timed are two.
+fn step(guarded: bool, image: &[u8], from: usize) -> Result<Option<Taken>, Refusal>
     ensures { result ≡ image_step guarded image.now from }
 {
     if guarded {
@@ -228,11 +190,10 @@ fn step(guarded: bool, image: &[u8], from: usize) -> Step
 fn taken(guarded: bool, image: &[u8], from: usize) -> u64
     ensures { result ≡ taken_by guarded image.now from }
 {
-    let s = step(guarded, image, from);
-    match s {
-        Step::Took(t) => t.place as u64,
-        Step::NoneLeft => 4294967295,
-        Step::Refused(x) => encoded_refusal(x),
+    match step(guarded, image, from) {
+        Ok(Some(t)) => t.place as u64,
+        Ok(None) => 4294967295,
+        Err(r) => encoded_refusal(r),
     }
 }
 
@@ -296,8 +257,7 @@ pub extern "C" fn bench_stage(image: &[u8], name: &[u8]) -> u64
     ensures value { result ≡ stage_source image.now name.now }
     ensures kept { (image.exit.now ≡ image.entry.now) × (name.exit.now ≡ name.entry.now) }
 {
-    let p = cbfs::stage(image, name);
-    value_or(p.number, 0, p.source)
+    encoded(cbfs::stage(image, name).map(|p| p.source))
 }
 
 // How many segments a payload has, or refusals 1 to 8, 10, 11 and 18 to 26.
@@ -306,8 +266,7 @@ pub extern "C" fn bench_payload(image: &[u8], name: &[u8]) -> u64
     ensures value { result ≡ payload_count image.now name.now }
     ensures kept { (image.exit.now ≡ image.entry.now) × (name.exit.now ≡ name.entry.now) }
 {
-    let p = cbfs::payload(image, name);
-    value_or(p.number, 0, p.count)
+    encoded(cbfs::payload(image, name).map(|p| p.count))
 }
 
 // Where the source of a payload's k-th segment stands in the image, 0 past a plan's 16, or the same refusals. The plan is kept for it.
@@ -316,12 +275,13 @@ pub extern "C" fn bench_segment(image: &[u8], name: &[u8], k: usize) -> u64
     ensures value { result ≡ segment_source image.now name.now k }
     ensures kept { (image.exit.now ≡ image.entry.now) × (name.exit.now ≡ name.entry.now) }
 {
-    let p = cbfs::payload(image, name);
-    if k < SEGMENTS_MAX {
-        let s = p.segments[k];
-        return value_or(p.number, 0, s.source);
+    match cbfs::payload(image, name) {
+        Ok(p) => match p.segments.get(k) {
+            Some(x) => x.source as u64,
+            None => 0,
+        },
+        Err(r) => encoded_refusal(r),
     }
-    value_or(p.number, 0, 0)
 }
 
 // How many areas the flash map has, or refusals 1 and 27 to 37.
@@ -330,8 +290,17 @@ pub extern "C" fn bench_fmap(image: &[u8]) -> u64
     ensures value { result ≡ area_count image.now }
     ensures kept { image.exit.now ≡ image.entry.now }
 {
-    let m = fmap::read(image);
-    value_or(m.number, 0, m.count)
+    encoded(fmap::read(image).map(|m| m.count))
+}
+
+// The offset of a map's k-th area, 0 past its 256.
+fn area_offset_of(m: &FlashMap, k: usize) -> u64
+    ensures { result ≡ map_offset m.now k }
+{
+    match m.areas.get(k) {
+        Some(a) => a.offset as u64,
+        None => 0,
+    }
 }
 
 // The offset of the flash map's k-th area, 0 past a map's 256, or the same refusals. The map is kept for it.
@@ -340,12 +309,10 @@ pub extern "C" fn bench_area(image: &[u8], k: usize) -> u64
     ensures value { result ≡ area_offset image.now k }
     ensures kept { image.exit.now ≡ image.entry.now }
 {
-    let m = fmap::read(image);
-    if k < AREAS_MAX {
-        let a = m.areas[k];
-        return value_or(m.number, 0, a.offset);
+    match fmap::read(image) {
+        Ok(m) => area_offset_of(&m, k),
+        Err(r) => encoded_refusal(r),
     }
-    value_or(m.number, 0, 0)
 }
 
 // The same of the map that stands at a place, judged against a size; or refusals 29 to 37.
@@ -354,12 +321,10 @@ pub extern "C" fn bench_map_at(image: &[u8], at: usize, size: usize, k: usize) -
     ensures value { result ≡ offset_at image.now at size k }
     ensures kept { image.exit.now ≡ image.entry.now }
 {
-    let m = fmap::map_at(image, at, size);
-    if k < AREAS_MAX {
-        let a = m.areas[k];
-        return value_or(m.number, 0, a.offset);
+    match fmap::map_at(image, at, size) {
+        Ok(m) => area_offset_of(&m, k),
+        Err(r) => encoded_refusal(r),
     }
-    value_or(m.number, 0, 0)
 }
 
 // How long the name of an area is whose name stands at a place; 0 where none does.
@@ -383,12 +348,7 @@ pub extern "C" fn bench_signatures(image: &[u8]) -> u64
     ensures value { result ≡ signature_place image.now }
     ensures kept { image.exit.now ≡ image.entry.now }
 {
-    let f = fmap::signatures(image);
-    match f {
-        SignatureSearch::Found(p) => p as u64,
-        SignatureSearch::NotFound => encoded_refusal(region::refusal_by(27)),
-        SignatureSearch::Several => encoded_refusal(region::refusal_by(28)),
-    }
+    encoded(fmap::signatures(image))
 }
 
 // The sum of all bytes, as a component's checksum is made of it.

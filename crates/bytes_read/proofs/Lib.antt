@@ -6,3 +6,4 @@ pub mod Passing
 pub mod Padding
 pub mod Tested
 pub mod Printable
+pub mod Made

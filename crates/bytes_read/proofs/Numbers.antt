@@ -1,35 +1,16 @@
 -- Laws of the numbers in bytes, each over the width.
 use Prim.Native.Nat.{ℕ, zero, suc, ◌+◌, ◌-◌, ◌*◌, ◌/◌, ◌%◌, ◌^◌, ◌≤◌, ◌<◌}
-use mathlib.Core.Path.{◌≡◌, refl, sym}
+use mathlib.Core.Path.{◌≡◌, refl, sym, ◌∙◌}
 use mathlib.Core.List.{List, [], ◌∷◌, ◌++◌, append_assoc}
-use native.Mathlib.Nat.{div-add-mod', div-lt_iff_lt-mul, pow-suc, add-zero, zero-add, add-suc, suc-add}
+use native.Mathlib.Nat.{div-add-mod', div-lt_iff_lt-mul, pow-suc, add-zero, zero-add, sub-zero, suc-add, add-mul, mul_assoc, mul_comm}
 use native.Mathlib.Omega.{arith}
 use native.Mathlib.Decide.{dec_lt}
-use lib.ListN.{length, take, drop, get_or, length-append, get_or-eq_default}
+use lib.ListN.{length, take, drop, get_or, length-append}
 use lib.Seq.{get_or_at, get_or-take, get_or-drop}
+use Rattle.std.specs.Int.{sum_through, byte_worth}
 use Rattle.bytes_read.specs.Number.{be, le, be_bytes, le_bytes, swap_bytes}
 
--- Past the end every number is 0.
-
-pub be_past : (w : ℕ) (s : List ℕ) (i : ℕ) → length s ≤ i → be w s i ≡ 0
-unfolding be
-be_past zero s i h = refl
-be_past (suc w) s i h = rw (be_past w s i h, get_or-eq_default s 0 {n = i + w} (omega arith))
-
-pub le_past : (w : ℕ) (s : List ℕ) (i : ℕ) → length s ≤ i → le w s i ≡ 0
-unfolding le
-le_past zero s i h = refl
-le_past (suc w) s i h = rw (le_past w s (i + 1) (omega arith), get_or-eq_default s 0 {n = i} h)
-
 -- A number of m + n bytes is made of one of m and one of n.
-
-pub be_split : (m n : ℕ) (s : List ℕ) (i : ℕ) → be (m + n) s i ≡ be m s i * 256 ^ n + be n s (i + m)
-unfolding be
-be_split m zero s i = rw add-zero (omega arith)
-be_split m (suc n) s i =
-    let e : i + (m + n) ≡ i + m + n = omega arith in
-    rw (add-suc m n, be_split m n s i, e, pow-suc 256 n) (omega arith)
-
 pub le_split : (m n : ℕ) (s : List ℕ) (i : ℕ) → le (m + n) s i ≡ le m s i + le n s (i + m) * 256 ^ m
 unfolding le
 le_split zero n s i = rw (zero-add n, add-zero i) (omega arith)
@@ -38,14 +19,10 @@ le_split (suc m) n s i =
     rw (suc-add m n, le_split m n s (i + 1), e, pow-suc 256 m) (omega arith)
 
 -- The same for two halves that were read.
-
-pub be_join : (w : ℕ) (s : List ℕ) (i : ℕ) {x y : ℕ} → x ≡ be w s i → y ≡ be w s (i + w) → x * 256 ^ w + y ≡ be (w + w) s i
-be_join w s i p q = rw (p, q) (sym (be_split w w s i))
-
 pub le_join : (w : ℕ) (s : List ℕ) (i : ℕ) {x y : ℕ} → x ≡ le w s i → y ≡ le w s (i + w) → x + y * 256 ^ w ≡ le (w + w) s i
 le_join w s i p q = rw (p, q) (sym (le_split w w s i))
 
-pub le_one : (s : List ℕ) (i : ℕ) → get_or s i 0 ≡ le 1 s i
+le_one : (s : List ℕ) (i : ℕ) → get_or s i 0 ≡ le 1 s i
 unfolding le
 le_one s i = omega arith
 
@@ -69,6 +46,56 @@ swap_be s i h =
     let e₂ : i + 1 + 1 ≡ i + 2 = omega arith in
     let e₃ : i + 1 + 1 + 1 ≡ i + 3 = omega arith in
     rw (e₃, e₂, add-zero i) (swap (get_or s i 0) (get_or s (i + 1) 0) (get_or s (i + 2) 0) (get_or s (i + 3) 0) (h i) (h (i + 1)) (h (i + 2)))
+
+-- A number of bytes that were copied from elsewhere.
+
+pub be_moved : (w : ℕ) (s b : List ℕ) (i j : ℕ) → ((k : ℕ) → k < w → get_or b (j + k) 0 ≡ get_or s (i + k) 0) → be w b j ≡ be w s i
+unfolding be
+be_moved zero s b i j h = refl
+be_moved (suc w) s b i j h = rw (be_moved w s b i j (λ k l. h k (omega arith)), h w (omega arith))
+
+pub le_moved : (w : ℕ) (s b : List ℕ) (i j : ℕ) → ((k : ℕ) → k < w → get_or b (j + k) 0 ≡ get_or s (i + k) 0) → le w b j ≡ le w s i
+unfolding le
+le_moved zero s b i j h = refl
+le_moved (suc w) s b i j h =
+    let first : get_or b j 0 ≡ get_or s i 0 = simp add-zero at (h 0 (omega arith)) in
+    let e : (k : ℕ) → j + 1 + k ≡ j + suc k = λ k. omega arith in
+    let f : (k : ℕ) → i + 1 + k ≡ i + suc k = λ k. omega arith in
+    rw (first, le_moved w s b (i + 1) (j + 1) (λ k l. rw (e k, f k) (h (suc k) (omega arith))))
+
+-- What the library's methods make of such bytes.
+
+worth : (i x : ℕ) → byte_worth i x ≡ x * 256 ^ i
+worth zero x = omega arith
+worth (suc i) x = refl
+
+from_le : (w : ℕ) (b : List ℕ) → sum_through (λ k. byte_worth k (get_or b k 0)) w ≡ le (suc w) b 0
+from_le zero b = le_one b 0
+from_le (suc w) b =
+    let n : suc (suc w) ≡ suc w + 1 = omega arith in
+    rw (n, le_split (suc w) 1 b 0, zero-add (suc w), ← le_one b (suc w), from_le w b)
+
+carried : (x y p : ℕ) → x * (p * 256) + y * p ≡ (x * 256 + y) * p
+carried x y p = rw (add-mul, mul_assoc, mul_comm p 256)
+
+from_be : (n w : ℕ) (b : List ℕ) → w ≤ n → sum_through (λ k. byte_worth (n - k) (get_or b k 0)) w ≡ be (suc w) b 0 * 256 ^ (n - w)
+unfolding be
+from_be n zero b h = rw sub-zero (worth n (get_or b 0 0) ∙ omega arith)
+from_be n (suc w) b h =
+    let m : n - w ≡ suc (n - suc w) = omega arith in
+    let z : 0 + suc w ≡ suc w = omega arith in
+    rw (z, from_be n w b (omega arith), worth (n - suc w) (get_or b (suc w) 0), m, pow-suc 256 (n - suc w))
+    (carried (be (suc w) b 0) (get_or b (suc w) 0) (256 ^ (n - suc w)))
+
+pub read_le : (w : ℕ) (s b : List ℕ) (i : ℕ) → ((k : ℕ) → k < suc w → get_or b k 0 ≡ get_or s (i + k) 0)
+    → sum_through (λ k. byte_worth k (get_or b k 0)) w ≡ le (suc w) s i
+read_le w s b i h = from_le w b ∙ le_moved (suc w) s b i 0 (λ k l. rw (zero-add k) (h k l))
+
+pub read_be : (w : ℕ) (s b : List ℕ) (i : ℕ) → ((k : ℕ) → k < suc w → get_or b k 0 ≡ get_or s (i + k) 0)
+    → sum_through (λ k. byte_worth (w - k) (get_or b k 0)) w ≡ be (suc w) s i
+read_be w s b i h =
+    let one : w - w ≡ 0 = omega arith in
+    from_be w w b (omega arith) ∙ rw one (omega (arith, be_moved (suc w) s b i 0 (λ k l. rw (zero-add k) (h k l))))
 
 -- A number is determined by its own bytes.
 

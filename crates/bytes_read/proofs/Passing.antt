@@ -34,13 +34,10 @@ all_true_last false = refl
 -- all
 
 pub all_here : (t : ℕ → Bool) (f : List ℕ) (i : ℕ) → i < length f → t (get_or f i 0) ≡ true → all t (drop i f) ≡ all t (drop (i + 1) f)
-unfolding all
 all_here t f i h y = rw (add-one, drop-cons f i 0 h, y)
 
 pub all_not : (t : ℕ → Bool) (f : List ℕ) (i : ℕ) → i < length f → t (get_or f i 0) ≡ false → all t (drop i f) ≡ false
-unfolding all
 all_not t f i h n = rw (drop-cons f i 0 h, n)
 
 pub all_done : (t : ℕ → Bool) (f : List ℕ) (i : ℕ) → length f ≤ i → all t (drop i f) ≡ true
-unfolding all
 all_done t f i h = rw (drop_of_length-le f h)

@@ -1,32 +1,30 @@
 -- Laws of the bytes that a name begins with: as a loop over the indices meets them, and as a part of the bytes.
-use Prim.Native.Nat.{ℕ, suc, ◌+◌, ◌≤◌, ◌<◌}
-use native.Mathlib.Nat.{add-zero}
-use native.Mathlib.Numerals.{add-one}
+use Prim.Native.Nat.{ℕ, zero, suc, min, ◌+◌, ◌≤◌}
+use native.Mathlib.Numerals.{one-add}
 use native.Mathlib.Omega.{arith}
 use mathlib.Core.Path.{◌≡◌, refl, sym, ap, ◌∙◌}
-use mathlib.Core.Bool.{Bool, true, false, cond, true≢false, false≢true}
+use mathlib.Core.Bool.{Bool, true, false, cond, ◌&&◌, true≢false, false≢true}
 use mathlib.Core.List.{List, [], ◌∷◌}
-use lib.ListN.{length, take, drop, get_or, drop_of_length-le}
-use lib.Seq.{drop-cons, take-length}
+use lib.ListN.{length, take}
+use lib.Seq.{take-length}
 use lib.Dec.{eqb}
 use borrow.Author.Tests.{eq-eqb, ne_eqb}
+use Rattle.std.specs.List.{prefix_len}
 use Rattle.bytes_read.specs.Tests.{all}
 use Rattle.bytes_read.specs.Printable.{is_printable, printable_prefix}
 
--- printed, over the indices
-
-pub prefix_here : (f : List ℕ) (i : ℕ) → i < length f → is_printable (get_or f i 0) ≡ true
-    → i + length (printable_prefix (drop i f)) ≡ i + 1 + length (printable_prefix (drop (i + 1) f))
+-- The longest front of which every byte passes, as the library counts it.
+pub prefix_counted : (f : List ℕ) (most : ℕ) → length (take (prefix_len is_printable (take most f)) (take most f)) ≡ min most (length (printable_prefix f))
 unfolding printable_prefix
-prefix_here f i h y = rw (drop-cons f i 0 h, y, add-one) (omega arith)
-
-pub prefix_not : (f : List ℕ) (i : ℕ) → i < length f → is_printable (get_or f i 0) ≡ false → i + length (printable_prefix (drop i f)) ≡ i
-unfolding printable_prefix
-prefix_not f i h n = rw (drop-cons f i 0 h, n) (add-zero i)
-
-pub prefix_end : (f : List ℕ) (i : ℕ) → length f ≤ i → i + length (printable_prefix (drop i f)) ≡ i
-unfolding printable_prefix
-prefix_end f i h = rw (drop_of_length-le f h) (add-zero i)
+prefix_counted [] zero = omega arith
+prefix_counted [] (suc most) = omega arith
+prefix_counted (b ∷ f) zero = omega arith
+prefix_counted (b ∷ f) (suc most) = go (is_printable b) (prefix_counted f most)
+  where
+    go : (t : Bool) → length (take (prefix_len is_printable (take most f)) (take most f)) ≡ min most (length (printable_prefix f))
+        → length (take (cond t (1 + prefix_len is_printable (take most f)) 0) (b ∷ take most f)) ≡ min (suc most) (length (cond t (b ∷ printable_prefix f) []))
+    go true ih = rw one-add (omega arith)
+    go false ih = omega arith
 
 pub prefix_take : (f : List ℕ) → take (length (printable_prefix f)) f ≡ printable_prefix f
 unfolding printable_prefix
@@ -48,7 +46,7 @@ prefix_le (b ∷ f) = go (is_printable b) (prefix_le f)
     go false h = omega arith
 
 pub all_prefix : (f : List ℕ) → all is_printable (printable_prefix f) ≡ true
-unfolding all printable_prefix
+unfolding printable_prefix
 all_prefix [] = refl
 all_prefix (b ∷ f) = go (is_printable b) refl (all_prefix f)
   where
@@ -59,11 +57,11 @@ all_prefix (b ∷ f) = go (is_printable b) refl (all_prefix f)
 -- Every byte is one of a name exactly if as many are counted as there are.
 
 whole : (s : List ℕ) → all is_printable s ≡ true → printable_prefix s ≡ s
-unfolding all printable_prefix
+unfolding printable_prefix
 whole [] e = refl
 whole (b ∷ s) e = go (is_printable b) refl e (whole s)
   where
-    go : (t : Bool) → is_printable b ≡ t → cond t (all is_printable s) false ≡ true → (all is_printable s ≡ true → printable_prefix s ≡ s)
+    go : (t : Bool) → is_printable b ≡ t → t && all is_printable s ≡ true → (all is_printable s ≡ true → printable_prefix s ≡ s)
         → cond t (b ∷ printable_prefix s) [] ≡ b ∷ s
     go true q f ih = ap (λ (l : List ℕ). b ∷ l) (ih f)
     go false q f ih = absurd (false≢true f)

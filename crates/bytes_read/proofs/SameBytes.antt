@@ -1,14 +1,20 @@
 -- Laws of eq_bytes, for a loop over the indices and for whoever compares.
-use Prim.Native.Nat.{ℕ, suc, ◌≤◌, ◌<◌}
+use Prim.Native.Nat.{ℕ, suc, ◌-◌, ◌≤◌, ◌<◌}
 use native.Mathlib.Omega.{arith}
-use native.Mathlib.Decide.{dec_lt}
 use mathlib.Core.Path.{◌≡◌, refl, sym, ap, ◌∙◌}
-use mathlib.Core.Bool.{Bool, true, false, cond, true≢false, false≢true}
-use mathlib.Core.List.{List, [], ◌∷◌}
-use lib.ListN.{length, get_or}
-use lib.Seq.{ext_get_or}
+use mathlib.Core.Bool.{Bool, true, false, cond, ◌&&◌, true≢false, false≢true}
+use mathlib.Core.List.{List, [], ◌∷◌, reverse}
+use lib.ListN.{length, drop}
 use lib.Dec.{eqb}
 use borrow.Author.Tests.{eq-eqb, eqb-true}
+use Rattle.std.specs.Bool.{Decides}
+use Rattle.std.specs.Cmp.Lexicographic.{pointwise}
+use Rattle.std.proofs.lemmas.List.{reverse-reverse}
+use Rattle.std.proofs.lemmas.Bool.Decides.{same_from_decides}
+use Rattle.std.specs.Prelude.{Option, Some, None, MatchOption}
+use Rattle.std.specs.Option.{option_eq}
+use Rattle.std.specs.Array.{IsWholeChunk}
+use denote.Ref.{Bor}
 use Rattle.bytes_read.specs.Bytes.{eq_bytes}
 
 pub eq_length : (a b : List ℕ) → (length a ≡ length b → ⊥) → eq_bytes a b ≡ false
@@ -39,27 +45,12 @@ unfolding eq_bytes
 eq_refl [] = refl
 eq_refl (x ∷ a) = rw (eq-eqb x x refl) (eq_refl a)
 
--- The two agree on the bytes from i up to e; on those up to m and from m on; on all.
-
-abbrev pub Agree : List ℕ → List ℕ → ℕ → ℕ → Type 0
-Agree a b i e = (j : ℕ) → i ≤ j → j < e → get_or a j 0 ≡ get_or b j 0
-
-pub agree_on : (a b : List ℕ) (i m e : ℕ) → Agree a b i m → Agree a b m e → Agree a b i e
-agree_on a b i m e p q j l h = go (dec_lt j m)
-  where
-    go : Dec (j < m) → get_or a j 0 ≡ get_or b j 0
-    go (yes k) = p j l k
-    go (no k) = q j (omega arith) h
-
-pub eq_agree : (a b : List ℕ) → length a ≡ length b → Agree a b 0 (length a) → eq_bytes a b ≡ true
-eq_agree a b l h = rw (ext_get_or 0 a b l (λ j k. h j (omega arith) k)) (eq_refl b)
-
--- What is read of the bytes differs.
-pub eq_differ : (read : List ℕ → ℕ) (a b : List ℕ) → (read a ≡ read b → ⊥) → eq_bytes a b ≡ false
-eq_differ read a b h = go (eq_bytes a b) refl
+-- Bytes that are not the same.
+pub eq_apart : (a b : List ℕ) → (a ≡ b → ⊥) → eq_bytes a b ≡ false
+eq_apart a b h = go (eq_bytes a b) refl
   where
     go : (t : Bool) → eq_bytes a b ≡ t → eq_bytes a b ≡ false
-    go true e = absurd (h (ap read (eq_true a b e)))
+    go true e = absurd (h (eq_true a b e))
     go false e = e
 
 -- The two may change places.
@@ -69,3 +60,38 @@ eq_sym u v e = go (eq_bytes v u) refl
     go : (b : Bool) → eq_bytes v u ≡ b → b ≡ false
     go false q = refl
     go true q = absurd (true≢false (sym (eq_refl u) ∙ rw (eq_true v u q) at e))
+
+-- The library's test of two slices is this one.
+pub eq_pointwise : (a b : List ℕ) → pointwise eqb a b ≡ eq_bytes a b
+unfolding eq_bytes
+eq_pointwise [] [] = refl
+eq_pointwise [] (y ∷ b) = refl
+eq_pointwise (x ∷ a) [] = refl
+eq_pointwise (x ∷ a) (y ∷ b) = go (eqb x y) (eq_pointwise a b)
+  where
+    go : (t : Bool) → pointwise eqb a b ≡ eq_bytes a b → (t && pointwise eqb a b) ≡ cond t (eq_bytes a b) false
+    go true ih = ih
+    go false ih = refl
+
+-- So is a comparison from the last byte on.
+pub eq_reverse : (a b : List ℕ) (r : Bool) → Decides r (reverse a ≡ reverse b) → r ≡ eq_bytes a b
+eq_reverse a b r h =
+    let back = λ (e : reverse a ≡ reverse b). rw (reverse-reverse, reverse-reverse) at (ap reverse e) in
+    same_from_decides r (eq_bytes a b) h (λ e. ap reverse (eq_true a b e), λ e. rw (back e) (eq_refl b))
+
+-- The last eight bytes of s, where there are as many.
+abbrev pub Last : List ℕ → Option (Bor (List ℕ)) → Type 0
+Last s r = MatchOption r (length s < 8) (λ y. (8 ≤ length s) × IsWholeChunk (drop (length s - 8) s) y.now 8)
+
+abbrev pub same_last : Option (Bor (List ℕ)) → Option (Bor (List ℕ)) → Bool
+same_last = option_eq (λ x y. pointwise eqb x.now y.now)
+
+last_same : (s : List ℕ) (r q : Option (Bor (List ℕ))) → Last s r → Last s q → same_last r q ≡ true
+last_same s None None f g = refl
+last_same s None (Some y) f g = absurd (omega (arith, f, g.0))
+last_same s (Some x) None f g = absurd (omega (arith, f.0, g))
+last_same s (Some x) (Some y) f g = rw (f.1.same, g.1.same, eq_pointwise) (eq_refl (drop (length s - 8) s))
+
+-- Where they differ, so do the two.
+pub last_apart : (a b : List ℕ) (r q : Option (Bor (List ℕ))) → Last a r → Last b q → same_last r q ≡ false → eq_bytes a b ≡ false
+last_apart a b r q f g e = eq_apart a b (λ h. true≢false (sym (last_same b r q (rw h at f) g) ∙ e))

@@ -1,13 +1,19 @@
 -- Laws of splice: writes one after the other make one write.
-use Prim.Native.Nat.{ℕ, suc, ◌+◌, ◌-◌, ◌≤◌, ◌<◌}
+use Prim.Native.Nat.{ℕ, ◌+◌, ◌-◌, ◌≤◌, ◌<◌}
 use mathlib.Core.Path.{◌≡◌, sym, ap, ◌∙◌}
 use mathlib.Core.Bool.{true, false}
-use mathlib.Core.List.{List, [], ◌∷◌, ◌++◌, append-nil, append_assoc}
+use mathlib.Core.List.{List, [], ◌++◌, append-nil, append_assoc}
+use native.Mathlib.Nat.{sub-zero}
+use native.Mathlib.Decide.{dec_lt}
 use native.Mathlib.Omega.{arith}
-use lib.ListN.{length, take, drop, set, length-append, length-take, length-drop, drop_of_length-le}
-use lib.Seq.{sets-eq, length-take-le, take_all, take_at, drop_at, drop-drop}
+use lib.ListN.{length, take, drop, length-append, length-take, length-drop, drop_of_length-le}
+use lib.Seq.{length-take-le, take_all, take_at, drop_at, drop-drop}
 use borrow.Author.Tests.{le-leb, lt-leb}
 use borrow.Rule.Slice.PartMut.{put_mid, Post-is}
+use denote.Ref.{Bor}
+use Rattle.std.specs.Prelude.{Option, Some, None}
+use Rattle.std.specs.Option.{unwrap_or}
+use Rattle.std.specs.Slice.{IsGetRangeResult}
 use Rattle.bytes_read.specs.Bytes.{fits, part_of, splice, written}
 
 -- the length of the part `&d[a..e]`
@@ -36,15 +42,20 @@ pub part_out : (s : List ℕ) (at n : ℕ) → length s < at + n → [] ≡ part
 unfolding part_of
 part_out s at n h = rw (lt-leb (at + n) (length s) h)
 
--- four stores
-pub splice_four : (d : List ℕ) (at a b x y : ℕ) → at + 4 ≤ length d
-    → set (set (set (set d at a) (at + 1) b) (at + 2) x) (at + 3) y ≡ splice d at (a ∷ b ∷ x ∷ y ∷ [])
-unfolding splice
-splice_four d at a b x y h =
-    let e1 : at + 1 ≡ suc at = omega arith in
-    let e2 : at + 2 ≡ suc (suc at) = omega arith in
-    let e3 : at + 3 ≡ suc (suc (suc at)) = omega arith in
-    rw (e1, e2, e3) (sets-eq (a ∷ b ∷ x ∷ y ∷ []) d at h ∙ append_assoc (take at d) (a ∷ b ∷ x ∷ y ∷ []) (drop (at + 4) d))
+-- what `get` of the first n bytes from at on gives
+pub part_got : (s : List ℕ) (at n : ℕ) (r : Option (Bor (List ℕ))) (none : Bor (List ℕ)) → IsGetRangeResult (drop at s) 0 n r → none.now ≡ []
+    → (unwrap_or r none).now ≡ part_of s at n
+part_got s at n None none h e = e ∙ part_out s at n (omega (arith, h.0, length-drop at s))
+part_got s at n (Some x) none h e = go (dec_lt (length s) (at + n))
+  where
+    here : x.now ≡ take n (drop at s)
+    here = rw sub-zero at h.0.2
+
+    go : Dec (length s < at + n) → x.now ≡ part_of s at n
+    go (yes past) =
+        let z : n ≡ 0 = omega (arith, h.0.1, length-drop at s) in
+        rw z at here ∙ part_out s at n past
+    go (no g) = here ∙ part_in s at n (omega arith)
 
 pub splice-length : (d : List ℕ) (at : ℕ) (ys : List ℕ) → at + length ys ≤ length d → length (splice d at ys) ≡ length d
 unfolding splice
@@ -92,14 +103,12 @@ next {d} {x} {y} {at} {m} {p} m' ys n w v e l h = record {
 pub whole : {d p x : List ℕ} {m : ℕ} → Wrote d 0 p m x → m ≡ length d → x ≡ p
 whole {d} {p} w h = w.bytes ∙ splice_all d p (omega arith)
 
--- A write of n bytes, ys, that fits, and one that does not: what is answered, and what is left.
+-- A write of ys, n bytes, that does not fit, and one that does, to the part that was lent for it and holds y now.
 
-pub fitting : (d : List ℕ) (at n : ℕ) (ys : List ℕ) {x : List ℕ} → length ys ≡ n → at + n ≤ length d → x ≡ splice d at ys
-    → (true ≡ fits d at n) × (x ≡ written d at ys)
+pub unwritten : (d : List ℕ) (at : ℕ) (ys : List ℕ) {n : ℕ} → length ys ≡ n → fits d at n ≡ false → d ≡ written d at ys
 unfolding written
-fitting d at n ys l h e = (sym (le-leb (at + n) (length d) h), e ∙ rw (l, le-leb (at + n) (length d) h))
+unwritten d at ys l h = rw (l, h)
 
-pub unfitting : (d : List ℕ) (at n : ℕ) (ys : List ℕ) → length ys ≡ n → length d < at + n
-    → (false ≡ fits d at n) × (d ≡ written d at ys)
-unfolding written
-unfitting d at n ys l h = (sym (lt-leb (at + n) (length d) h), rw (l, lt-leb (at + n) (length d) h))
+pub part_written : (d : List ℕ) (at : ℕ) {y ys : List ℕ} {n : ℕ} → length ys ≡ n → fits d at n ≡ true → y ≡ ys → put_mid at (at + n - at) d y ≡ written d at ys
+unfolding written splice
+part_written d at {y} {ys} {n} l h e = rw (e, l, h, Post-is at (at + n) d (omega arith))

@@ -18,9 +18,8 @@ pub both_true : (b c : Bool) → b && c ≡ true → (b ≡ true) × (c ≡ true
 both_true true c e = (refl, e)
 both_true false c e = absurd (false≢true e)
 
-module _ {ℓ} {A : Type ℓ} where
+module _ {A : Type 0} where
   pub any_false : (f : A → Bool) (l : List A) → any f l ≡ false → (x : A) → Memᴰ x l → f x ≡ false
-  unfolding any
   any_false f [] e x m = absurd (Memᴰ.not-nil m)
   any_false f (y ∷ ys) e x m = go (Memᴰ.cases_cons m) (any_false f ys (or_false (f y) (any f ys) e).1 x)
     where
@@ -29,7 +28,6 @@ module _ {ℓ} {A : Type ℓ} where
       go (inr m') ih = ih m'
 
   pub any_true : (f : A → Bool) (l : List A) → any f l ≡ true → (x : A) × Memᴰ x l × (f x ≡ true)
-  unfolding any
   any_true f [] e = absurd (false≢true e)
   any_true f (y ∷ ys) e = go (f y) refl e (any_true f ys)
     where
@@ -39,7 +37,6 @@ module _ {ℓ} {A : Type ℓ} where
       go false q e' ih = let (x, m, p) = ih e' in (x, Memᴰ.tail m, p)
 
   pub none_any : (f : A → Bool) (l : List A) → ((x : A) → Memᴰ x l → f x ≡ false) → any f l ≡ false
-  unfolding any
   none_any f [] h = refl
   none_any f (y ∷ ys) h = rw (h y (Memᴰ.head refl)) (none_any f ys (λ x m. h x (Memᴰ.tail m)))
 
@@ -106,7 +103,7 @@ module _ {ℓ} {A : Type ℓ} where
       go false ih = omega arith
 
   -- Where the first that is kept stands: nothing before it is kept, and the rest after it.
-  pub record FirstFiltered (f : A → Bool) (l : List A) (x : A) (rest : List A) : Type ℓ where
+  pub record FirstFiltered (f : A → Bool) (l : List A) (x : A) (rest : List A) : Type 0 where
     pub before : List A
     pub after : List A
     pub split : l ≡ before ++ (x ∷ after)

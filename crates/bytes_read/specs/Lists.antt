@@ -1,12 +1,12 @@
 -- Lists by a Boolean test, and lists filled up to a width.
-use Rattle.std.specs.Prelude.{ℕ, ◌-◌, List, [], ◌∷◌, ◌++◌, Bool, true, false, cond, not, ◌&&◌, ◌||◌, length, replicate}
+use Rattle.std.specs.Prelude.{ℕ, ◌-◌, List, [], ◌∷◌, ◌++◌, Bool, true, cond, not, ◌&&◌, length, replicate}
+use Rattle.std.specs.List.{list_any}
 
-module _ {ℓ} {A : Type ℓ} where
-  -- The test holds of some element.
-  unfoldable pub any : (A → Bool) → List A → Bool
-  any f [] = false
-  any f (x ∷ xs) = let rest = any f xs in f x || rest
+-- The test holds of some element.
+abbrev pub any : {A : Type 0} → (A → Bool) → List A → Bool
+any f xs = list_any f xs
 
+module _ {A : Type 0} where
   -- The elements of which the test holds.
   unfoldable pub filter : (A → Bool) → List A → List A
   filter f [] = []

@@ -1,5 +1,6 @@
 -- Lists of tests.
-use Rattle.std.specs.Prelude.{ℕ, List, [], ◌∷◌, Bool, true, false, cond}
+use Rattle.std.specs.Prelude.{ℕ, List, [], ◌∷◌, Bool, true, false}
+use Rattle.std.specs.List.{list_all}
 
 -- Each of the tests is passed.
 abbrev pub all_true : List Bool → Bool
@@ -8,6 +9,5 @@ all_true (true ∷ ts) = all_true ts
 all_true (false ∷ ts) = false
 
 -- Each byte passes the test.
-unfoldable pub all : (ℕ → Bool) → List ℕ → Bool
-all t [] = true
-all t (b ∷ bs) = cond (t b) (all t bs) false
+abbrev pub all : (ℕ → Bool) → List ℕ → Bool
+all t bs = list_all t bs

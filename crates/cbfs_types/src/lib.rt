@@ -98,7 +98,8 @@ pub struct Region {
     pub align: usize,
 }
 
-// A refusal.
+// A refusal: the error of every call. What a call gives stands in `Ok`. It is a number and no enum: document 01, the definitions and the theorems
+// (`first_failed`, `RefusalHas`) speak of refusals by their numbers, and 36 names with a table back to them would be no plainer.
 #[derive(Clone, Copy)]
 pub struct Refusal {
     // the number, by the table in README.md
@@ -107,14 +108,7 @@ pub struct Refusal {
     pub place: usize,
 }
 
-// The region that an image's master header gives, or refusals 1 to 8.
-#[derive(Clone, Copy)]
-pub enum Master {
-    Read(Region),
-    Refused(Refusal),
-}
-
-// The numbers of a component's header.
+// The numbers of a component's header. Any 32 bits may stand in the image as a type: an enum of the known ones would have to keep the others too.
 #[derive(Clone, Copy)]
 pub struct Header {
     // from the component's place to its content
@@ -138,41 +132,18 @@ pub struct Taken {
     pub next: usize,
 }
 
-// A step of a walk: a component, or that none is left, or the refusal.
-#[derive(Clone, Copy)]
-pub enum Step {
-    Took(Taken),
-    NoneLeft,
-    Refused(Refusal),
-}
-
-// A lookup by name: the component, or the refusal.
-#[derive(Clone, Copy)]
-pub enum Found {
-    At(Taken),
-    Refused(Refusal),
-}
-
-// The strict check's answer: the components' places in order, zeros after them, and their count; or a refusal, and zeros elsewhere.
+// The directory that the strict check gives of an accepted image: the components' places in order, zeros after them, and their count. Memory is fixed
+// (no heap): an array and how much of it is used, here and in a payload plan and a flash map.
 #[derive(Clone, Copy)]
 pub struct Directory {
-    // 0 where the image is accepted, else the refusal's number and its place
-    pub number: u32,
-    pub place: usize,
     pub count: usize,
     pub places: [usize; COMPONENTS_MAX],
 }
 
-// An edit: the place of the component that was written or removed, or the refusal. Where it is refused, no byte has changed.
-#[derive(Clone, Copy)]
-pub enum Edited {
-    Done(usize),
-    Refused(Refusal),
-}
-
 // What is loaded, a stage's binary or a segment of a payload: the len bytes at the place `source` of the image are for the address `load`, where memlen bytes
 // are theirs.
-// Fields that a segment's type does not use are 0, and so is the type of a stage's binary.
+// Fields that a segment's type does not use are 0, and so is the type of a stage's binary. The type and the compression stay the numbers that the record
+// has: the definitions and the theorems of a payload speak of them.
 #[derive(Clone, Copy)]
 pub struct Segment {
     pub kind: u32,
@@ -183,13 +154,9 @@ pub struct Segment {
     pub memlen: usize,
 }
 
-// The load plan of a stage: the len bytes at the place `source` of the image are for the address `load`, where memlen bytes are zeroed; or a refusal, and
-// zeros elsewhere.
+// The load plan of a stage: the len bytes at the place `source` of the image are for the address `load`, where memlen bytes are zeroed.
 #[derive(Clone, Copy)]
 pub struct StagePlan {
-    // 0 where the stage can be loaded, else the refusal's number and its place
-    pub number: u32,
-    pub place: usize,
     pub compression: u32,
     pub entry: u64,
     pub load: u64,
@@ -198,12 +165,9 @@ pub struct StagePlan {
     pub memlen: usize,
 }
 
-// The load plan of a payload: its segments in order, the ENTRY last, zeros after them, and their count; or a refusal, and zeros elsewhere.
+// The load plan of a payload: its segments in order, the ENTRY last, zeros after them, and their count.
 #[derive(Clone, Copy)]
 pub struct PayloadPlan {
-    // 0 where the payload can be loaded, else the refusal's number and its place
-    pub number: u32,
-    pub place: usize,
     pub count: usize,
     pub segments: [Segment; SEGMENTS_MAX],
 }
@@ -217,22 +181,11 @@ pub struct Area {
     pub name: usize,
 }
 
-// A flash map: its areas in map order, zeros after them, and their count; or a refusal, and zeros elsewhere.
+// A flash map: its areas in map order, zeros after them, and their count.
 #[derive(Clone, Copy)]
 pub struct FlashMap {
-    // 0 where the map was read, else the refusal's number and its place
-    pub number: u32,
-    pub place: usize,
     pub minor: u8,
     pub base: u64,
     pub count: usize,
     pub areas: [Area; AREAS_MAX],
-}
-
-// The signatures of flash maps in a run of bytes: none, one and its place, or several.
-#[derive(Clone, Copy)]
-pub enum SignatureSearch {
-    NotFound,
-    Found(usize),
-    Several,
 }

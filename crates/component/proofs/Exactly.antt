@@ -3,10 +3,11 @@ use Prim.Native.Nat.{ℕ, zero, suc, ◌+◌, ◌*◌, ◌-◌, ◌/◌, ◌%◌
 use native.Mathlib.Nat.{div-add-mod', mul-mod_left}
 use native.Mathlib.Omega.{arith}
 use mathlib.Core.Path.{◌≡◌, refl, sym, ap, subst, ◌∙◌}
-use mathlib.Core.Bool.{Bool, true, false, cond, false≢true}
+use mathlib.Core.Bool.{Bool, true, false, cond, ◌&&◌, false≢true}
 use mathlib.Core.List.{List, [], ◌∷◌, ◌++◌}
 use mathlib.Core.Logic.{◌⊎◌, inl, inr, ◌↔◌}
-use mathlib.Core.Option.{Option, some, none, none-ne-some}
+use Rattle.std.specs.Prelude.{Option, Some, None}
+use Rattle.std.proofs.lemmas.Option.{none-some}
 use lib.ListN.{length, take, drop, get_or, length-take, length-drop}
 use lib.Seq.{length-take-le, take-take, take-suc, take-add, drop_at, get_or-take, get_or-drop}
 use lib.Dec.{leb, eqb}
@@ -28,18 +29,16 @@ use Rattle.component.proofs.Judging.{unsummed_numbers, unsummed_fits_region, uns
 -- A test on every byte, by index.
 
 pub all_at : (t : ℕ → Bool) (l : List ℕ) → all t l ≡ true → (j : ℕ) → j < length l → t (get_or l j 0) ≡ true
-unfolding all
 all_at t [] e j h = absurd (omega arith)
 all_at t (b ∷ l) e j h = go (t b) refl e j h (all_at t l)
   where
-    go : (x : Bool) → t b ≡ x → cond x (all t l) false ≡ true → (j : ℕ) → j < suc (length l)
+    go : (x : Bool) → t b ≡ x → x && all t l ≡ true → (j : ℕ) → j < suc (length l)
         → (all t l ≡ true → (k : ℕ) → k < length l → t (get_or l k 0) ≡ true) → t (get_or (b ∷ l) j 0) ≡ true
     go true q f zero h ih = q
     go true q f (suc k) h ih = ih f k (omega arith)
     go false q f k h ih = absurd (false≢true f)
 
 at_all : (t : ℕ → Bool) (l : List ℕ) → ((j : ℕ) → j < length l → t (get_or l j 0) ≡ true) → all t l ≡ true
-unfolding all
 at_all t [] h = refl
 at_all t (b ∷ l) h =
     let y : t b ≡ true = h 0 (omega arith) in
@@ -124,7 +123,7 @@ module _ (s : List ℕ) (long : offset s ≤ length s) where
   nth j h = get_or-take (offset s - 24) (drop 24 s) j 0 (omega arith) ∙ get_or-drop 24 s j 0
 
 -- The byte behind a name is zero, and a name has 255 bytes at most.
-pub numbers_ends : (s : List ℕ) (c : Component) → judge_numbers s ≡ some c → (get_or s (24 + length c.name) 0 ≡ 0) × (length c.name ≤ 255)
+pub numbers_ends : (s : List ℕ) (c : Component) → judge_numbers s ≡ Some c → (get_or s (24 + length c.name) 0 ≡ 0) × (length c.name ≤ 255)
 unfolding component_of
 numbers_ends s c e = let (least, fits, named, read) = unsummed_read s c e in
     subst (λ (x : Component). (get_or s (24 + length x.name) 0 ≡ 0) × (length x.name ≤ 255)) read
@@ -244,23 +243,23 @@ field_words s n w =
 
 -- Well formed is what document 01's tests accept (`judge_skipping_sum`) and whose checksum is 0 or the sum of the span.
 pub well_formed_exactly : (s : List ℕ) (c : Component)
-    → (judge s ≡ some c) ↔ ((judge_skipping_sum s ≡ some c) × ((c.checksum ≡ 0) ⊎ (c.checksum ≡ span_sum (take (span_length c) s))))
-well_formed_exactly s c = (there, λ h. judge_unsummed s (some c) h.0 ∙ back h.0 h.1)
+    → (judge s ≡ Some c) ↔ ((judge_skipping_sum s ≡ Some c) × ((c.checksum ≡ 0) ⊎ (c.checksum ≡ span_sum (take (span_length c) s))))
+well_formed_exactly s c = (there, λ h. judge_unsummed s (Some c) h.0 ∙ back h.0 h.1)
   where
-    stated : judge_skipping_sum s ≡ some c → checksum_of (take (span_length c) s) ≡ c.checksum
+    stated : judge_skipping_sum s ≡ Some c → checksum_of (take (span_length c) s) ≡ c.checksum
     stated h = let f = unsummed_fits_region s c h in
         be_same 4 s (take (span_length c) s) 16 (λ j a b. get_or-take (span_length c) s j 0 (omega (arith, f))) ∙ unsummed_of s c h
 
-    back : judge_skipping_sum s ≡ some c → (c.checksum ≡ 0) ⊎ (c.checksum ≡ span_sum (take (span_length c) s)) → summed_of s (some c) ≡ some c
+    back : judge_skipping_sum s ≡ Some c → (c.checksum ≡ 0) ⊎ (c.checksum ≡ span_sum (take (span_length c) s)) → summed_of s (Some c) ≡ Some c
     back h w = rw (stated_sum (take (span_length c) s) (rw (stated h) w))
 
-    there : judge s ≡ some c → (judge_skipping_sum s ≡ some c) × ((c.checksum ≡ 0) ⊎ (c.checksum ≡ span_sum (take (span_length c) s)))
+    there : judge s ≡ Some c → (judge_skipping_sum s ≡ Some c) × ((c.checksum ≡ 0) ⊎ (c.checksum ≡ span_sum (take (span_length c) s)))
     there e =
-        let h : judge_skipping_sum s ≡ some c = unsummed_numbers s (judge-magic s c e) ∙ judge_by_numbers s c e in
+        let h : judge_skipping_sum s ≡ Some c = unsummed_numbers s (judge-magic s c e) ∙ judge_by_numbers s c e in
         (h, rw (stated h) at (sum_stated (take (span_length c) s) (fits_stated h e)))
       where
-        fits_stated : judge_skipping_sum s ≡ some c → judge s ≡ some c → checksum_matches (take (span_length c) s) ≡ true
-        fits_stated h e = (cond_some (checksum_matches (take (span_length c) s)) c c (sym (judge_unsummed s (some c) h) ∙ e)).0
+        fits_stated : judge_skipping_sum s ≡ Some c → judge s ≡ Some c → checksum_matches (take (span_length c) s) ≡ true
+        fits_stated h e = (cond_some (checksum_matches (take (span_length c) s)) c c (sym (judge_unsummed s (Some c) h) ∙ e)).0
 
 -- The definition's component is the paper's, for the length of the name.
 same_component : (s : List ℕ) (n : ℕ) → n ≤ offset s - 24 → before_zero (name_field s) ≡ take n (name_field s) → component_of s ≡ component s n
@@ -268,7 +267,7 @@ unfolding component_of
 same_component s n h e = rw (e, take-take n (offset s - 24) (drop 24 s) h)
 
 -- Where the header is well formed, the judge gives the paper's component.
-pub judge_words : (s : List ℕ) (n : ℕ) → WellFormedHeader s n → judge s ≡ some (component s n)
+pub judge_words : (s : List ℕ) (n : ℕ) → WellFormedHeader s n → judge s ≡ Some (component s n)
 unfolding starts_with_magic magic
 judge_words s n w =
     let d = field_words s n w in
@@ -285,23 +284,23 @@ judge_words s n w =
     })
 
 -- A component stands at the start of s exactly if the header there is well formed, and then it is the paper's.
-pub judge_exactly : (s : List ℕ) (c : Component) → (judge s ≡ some c) ↔ ((n : ℕ) × WellFormedHeader s n × (c ≡ component s n))
+pub judge_exactly : (s : List ℕ) (c : Component) → (judge s ≡ Some c) ↔ ((n : ℕ) × WellFormedHeader s n × (c ≡ component s n))
 judge_exactly s c = (there, back)
   where
-    there : judge s ≡ some c → (n : ℕ) × WellFormedHeader s n × (c ≡ component s n)
+    there : judge s ≡ Some c → (n : ℕ) × WellFormedHeader s n × (c ≡ component s n)
     there e =
         let f = formed s c e in
         let w = well_formed_lem s c f in
         let n : ℕ = length (before_zero (name_field s)) in
         (n, w, sym f.read ∙ same_component s n (omega (arith, w.in_field)) (sym (before_take (name_field s))))
 
-    back : (n : ℕ) × WellFormedHeader s n × (c ≡ component s n) → judge s ≡ some c
-    back (n, w, e) = judge_words s n w ∙ ap some (sym e)
+    back : (n : ℕ) × WellFormedHeader s n × (c ≡ component s n) → judge s ≡ Some c
+    back (n, w, e) = judge_words s n w ∙ ap Some (sym e)
 
 -- No component stands there exactly if the header is well formed for no length of the name.
-pub none_exactly : (s : List ℕ) → (judge s ≡ none) ↔ ((n : ℕ) → WellFormedHeader s n → ⊥)
-none_exactly s = (λ e n w. none-ne-some _ (sym e ∙ judge_words s n w), back (judge s) refl)
+pub none_exactly : (s : List ℕ) → (judge s ≡ None) ↔ ((n : ℕ) → WellFormedHeader s n → ⊥)
+none_exactly s = (λ e n w. none-some _ (sym e ∙ judge_words s n w), back (judge s) refl)
   where
-    back : (o : Option Component) → judge s ≡ o → ((n : ℕ) → WellFormedHeader s n → ⊥) → o ≡ none
-    back none q h = refl
-    back (some c) q h = let (n, w, e) = (judge_exactly s c).0 q in absurd (h n w)
+    back : (o : Option Component) → judge s ≡ o → ((n : ℕ) → WellFormedHeader s n → ⊥) → o ≡ None
+    back None q h = refl
+    back (Some c) q h = let (n, w, e) = (judge_exactly s c).0 q in absurd (h n w)

@@ -5,8 +5,9 @@ use native.Mathlib.Nat.{min-le_left}
 use native.Mathlib.Omega.{arith}
 use mathlib.Core.Path.{◌≡◌, refl, sym, ap, subst, ◌∙◌}
 use mathlib.Core.List.{List, [], ◌∷◌, ◌++◌}
-use mathlib.Core.Bool.{Bool, true, false, cond, true≢false, false≢true}
-use mathlib.Core.Option.{Option, some, none, some-injective, none-ne-some, some-ne-none}
+use mathlib.Core.Bool.{Bool, true, false, cond, ◌&&◌, true≢false, false≢true}
+use Rattle.std.specs.Prelude.{Option, Some, None}
+use Rattle.std.proofs.lemmas.Option.{same_Some, none-some}
 use lib.ListN.{length, get_or, take, drop, length-take, length-drop}
 use lib.Seq.{take-take, get_or-take, get_or-drop, ext_get_or}
 use lib.Dec.{ltb, eqb}
@@ -23,7 +24,6 @@ use Rattle.component.specs.Component.{magic, starts_with_magic, len_of, kind_of,
 use Rattle.component.specs.Component.{header_tests}
 use Rattle.component.specs.Component.{well_formed, judge_numbers, judge_skipping_sum, judge_after_magic, judge, judged, header_of, name_of, content_of}
 use Rattle.cbfs_types.specs.declared.Header.{Header}
-use Rattle.component.specs.declared.Judged.TheVariants.{WellFormed, IllFormed}
 use Rattle.bytes_read.proofs.Passing.{fails, passes}
 use Rattle.component.proofs.Naming.{before_take, before_le, field_name, length_fit}
 
@@ -39,11 +39,10 @@ magic_eight s = rw (take-take 8 8 s (omega arith))
 
 -- Every byte of a list passes a bound that all of its elements pass; past the end it is 0.
 small : (l : List ℕ) → all (λ b. ltb b 256) l ≡ true → (j : ℕ) → get_or l j 0 < 256
-unfolding all
 small [] e j = omega arith
 small (x ∷ l) e j = go (ltb x 256) refl e j (small l)
   where
-    go : (b : Bool) → ltb x 256 ≡ b → cond b (all (λ y. ltb y 256) l) false ≡ true → (j : ℕ) → (all (λ y. ltb y 256) l ≡ true → (k : ℕ) → get_or l k 0 < 256)
+    go : (b : Bool) → ltb x 256 ≡ b → b && all (λ y. ltb y 256) l ≡ true → (j : ℕ) → (all (λ y. ltb y 256) l ≡ true → (k : ℕ) → get_or l k 0 < 256)
         → get_or (x ∷ l) j 0 < 256
     go true q f zero ih = ltb-true x 256 q
     go true q f (suc k) ih = ih f k
@@ -51,7 +50,7 @@ small (x ∷ l) e j = go (ltb x 256) refl e j (small l)
 
 -- Eight bytes are the magic exactly if they make the same number.
 pub magic_number : (s : List ℕ) → 8 ≤ length s → ((j : ℕ) → get_or s j 0 < 256) → eqb (le 8 s 0) (le 8 magic 0) ≡ starts_with_magic s
-unfolding starts_with_magic magic all
+unfolding starts_with_magic magic
 magic_number s l p = go (eq_bytes (take 8 s) magic) refl
   where
     go : (b : Bool) → eq_bytes (take 8 s) magic ≡ b → eqb (le 8 s 0) (le 8 magic 0) ≡ eq_bytes (take 8 s) magic
@@ -67,21 +66,21 @@ magic_number s l p = go (eq_bytes (take 8 s) magic) refl
 
 -- The fields, by the tests on the offset o and the length l that were read.
 
-pub unsummed_bad : (s : List ℕ) (o l k : ℕ) → o ≡ offset_of s → l ≡ len_of s → get_or (number_tests s o l) k true ≡ false → IllFormed ≡ judged (judge_numbers s)
+pub unsummed_bad : (s : List ℕ) (o l k : ℕ) → o ≡ offset_of s → l ≡ len_of s → get_or (number_tests s o l) k true ≡ false → None ≡ judged (judge_numbers s)
 unfolding judge_numbers
 unsummed_bad s o l k eo el h = rw (← eo, ← el, fails k (number_tests s o l) h)
 
 pub unsummed_good : (s : List ℕ) (h : Header) → h.offset ≡ offset_of s → h.len ≡ len_of s → h.kind ≡ kind_of s → h.checksum ≡ checksum_of s
-    → h.namelen ≡ name_length (take (h.offset - 24) (drop 24 s)) → all_true (number_tests s h.offset h.len) ≡ true → WellFormed h ≡ judged (judge_numbers s)
+    → h.namelen ≡ name_length (take (h.offset - 24) (drop 24 s)) → all_true (number_tests s h.offset h.len) ≡ true → Some h ≡ judged (judge_numbers s)
 unfolding judge_numbers component_of number_tests
 unsummed_good s h eo el ek es en t =
     let f : field_fits (take (h.offset - 24) (drop 24 s)) ≡ true = passes 5 (number_tests s h.offset h.len) t in
     let n : h.namelen ≡ length (before_zero (take (h.offset - 24) (drop 24 s))) = en ∙ length_fit (take (h.offset - 24) (drop 24 s)) f in
     rw (← eo, ← el, t, ← ek, ← es, ← n)
 
-pub cond_some : {A : Type 0} (b : Bool) (x y : A) → cond b (some x) none ≡ some y → (b ≡ true) × (x ≡ y)
-cond_some true x y e = (refl, some-injective _ _ e)
-cond_some false x y e = absurd (none-ne-some _ e)
+pub cond_some : {A : Type 0} (b : Bool) (x y : A) → cond b (Some x) None ≡ Some y → (b ≡ true) × (x ≡ y)
+cond_some true x y e = (refl, same_Some _ _ e)
+cond_some false x y e = absurd (none-some _ e)
 
 -- The fields are the numbers, then the sum.
 
@@ -91,47 +90,47 @@ every_one [] false = refl
 every_one (true ∷ ts) b = every_one ts b
 every_one (false ∷ ts) b = refl
 
-pub fields_ill : (s : List ℕ) → judge_numbers s ≡ none → judge_after_magic s ≡ none
+pub fields_ill : (s : List ℕ) → judge_numbers s ≡ None → judge_after_magic s ≡ None
 unfolding judge_after_magic well_formed header_tests judge_numbers
 fields_ill s e =
     rw (every_one (number_tests s (offset_of s) (len_of s)) (checksum_matches (take (offset_of s + len_of s) s)))
     (go (all_true (number_tests s (offset_of s) (len_of s))) e)
   where
-    go : (b : Bool) → cond b (some (component_of s)) none ≡ none
-        → cond (cond b (checksum_matches (take (offset_of s + len_of s) s)) false) (some (component_of s)) none ≡ none
-    go true q = absurd (some-ne-none _ q)
+    go : (b : Bool) → cond b (Some (component_of s)) None ≡ None
+        → cond (cond b (checksum_matches (take (offset_of s + len_of s) s)) false) (Some (component_of s)) None ≡ None
+    go true q = absurd (none-some _ (sym q))
     go false q = refl
 
-pub fields_summed : (s : List ℕ) (c : Component) → judge_numbers s ≡ some c → judge_after_magic s ≡ cond (checksum_matches (take (span_length c) s)) (some c) none
+pub fields_summed : (s : List ℕ) (c : Component) → judge_numbers s ≡ Some c → judge_after_magic s ≡ cond (checksum_matches (take (span_length c) s)) (Some c) None
 unfolding judge_after_magic well_formed header_tests judge_numbers component_of
 fields_summed s c e =
     rw (every_one (number_tests s (offset_of s) (len_of s)) (checksum_matches (take (offset_of s + len_of s) s)))
     (go (all_true (number_tests s (offset_of s) (len_of s))) e)
   where
-    go : (b : Bool) → cond b (some (component_of s)) none ≡ some c
-        → cond (cond b (checksum_matches (take (offset_of s + len_of s) s)) false) (some (component_of s)) none ≡ cond (checksum_matches (take (span_length c) s))
-        (some c) none
-    go true q = ap (λ (x : Component). cond (checksum_matches (take (span_length x) s)) (some x) none) (some-injective _ _ q)
-    go false q = absurd (none-ne-some _ q)
+    go : (b : Bool) → cond b (Some (component_of s)) None ≡ Some c
+        → cond (cond b (checksum_matches (take (offset_of s + len_of s) s)) false) (Some (component_of s)) None ≡ cond (checksum_matches (take (span_length c) s))
+        (Some c) None
+    go true q = ap (λ (x : Component). cond (checksum_matches (take (span_length x) s)) (Some x) None) (same_Some _ _ q)
+    go false q = absurd (none-some _ q)
 
 -- What the sum leaves of the component that was found by the numbers.
 abbrev pub summed_of : List ℕ → Option Component → Option Component
-summed_of s none = none
-summed_of s (some c) = cond (checksum_matches (take (span_length c) s)) (some c) none
+summed_of s None = None
+summed_of s (Some c) = cond (checksum_matches (take (span_length c) s)) (Some c) None
 
 -- From the answer to the component.
 
-pub judged_some : (o : Option Component) (h : Header) → judged o ≡ WellFormed h → (c : Component) × (o ≡ some c) × (header_of c ≡ h)
-judged_some none h e = let z : ◌≡◌ {A = ℕ} 0 1 = cc in absurd (omega arith)
-judged_some (some c) h e = (c, refl, (cc))
+pub judged_some : (o : Option Component) (h : Header) → judged o ≡ Some h → (c : Component) × (o ≡ Some c) × (header_of c ≡ h)
+judged_some None h e = let z : ◌≡◌ {A = ℕ} 0 1 = cc in absurd (omega arith)
+judged_some (Some c) h e = (c, refl, (cc))
 
-pub judged_none : (o : Option Component) → judged o ≡ IllFormed → o ≡ none
-judged_none none e = refl
-judged_none (some c) e = let z : ◌≡◌ {A = ℕ} 0 1 = cc in absurd (omega arith)
+pub judged_none : (o : Option Component) → judged o ≡ None → o ≡ None
+judged_none None e = refl
+judged_none (Some c) e = let z : ◌≡◌ {A = ℕ} 0 1 = cc in absurd (omega arith)
 
 -- What the header's numbers meet.
 
-pub unsummed_read : (s : List ℕ) (c : Component) → judge_numbers s ≡ some c
+pub unsummed_read : (s : List ℕ) (c : Component) → judge_numbers s ≡ Some c
     → (40 ≤ offset_of s) × (offset_of s + len_of s ≤ length s) × (field_fits (name_field s) ≡ true) × (component_of s ≡ c)
 unfolding judge_numbers number_tests
 unsummed_read s c e =
@@ -139,28 +138,28 @@ unsummed_read s c e =
     let t : (k : ℕ) → get_or (number_tests s (offset_of s) (len_of s)) k true ≡ true = λ k. passes k (number_tests s (offset_of s) (len_of s)) w.0 in
     (leb-true _ _ (t 1), leb-true _ _ (t 4), t 5, w.1)
 
-pub unsummed_fits : (s : List ℕ) (c : Component) → judge_numbers s ≡ some c → (40 ≤ c.offset) × (span_length c ≤ length s)
+pub unsummed_fits : (s : List ℕ) (c : Component) → judge_numbers s ≡ Some c → (40 ≤ c.offset) × (span_length c ≤ length s)
 unfolding component_of
 unsummed_fits s c e = let (least, fits, named, read) = unsummed_read s c e in
     subst (λ (x : Component). (40 ≤ x.offset) × (span_length x ≤ length s)) read (least, fits)
 
 -- The same three by what the judge of the numbers answered.
 
-pub unsummed_header : (s : List ℕ) (h : Header) → judged (judge_numbers s) ≡ WellFormed h → (40 ≤ h.offset) × (h.offset + h.len ≤ length s)
+pub unsummed_header : (s : List ℕ) (h : Header) → judged (judge_numbers s) ≡ Some h → (40 ≤ h.offset) × (h.offset + h.len ≤ length s)
 unsummed_header s h e = let (c, q, r) = judged_some (judge_numbers s) h e in
     subst (λ (x : Header). (40 ≤ x.offset) × (x.offset + x.len ≤ length s)) r (unsummed_fits s c q)
 
-pub ill_unsummed : (s : List ℕ) → judged (judge_numbers s) ≡ IllFormed → judge_after_magic s ≡ none
+pub ill_unsummed : (s : List ℕ) → judged (judge_numbers s) ≡ None → judge_after_magic s ≡ None
 ill_unsummed s e = fields_ill s (judged_none (judge_numbers s) e)
 
-pub header_summed : (s : List ℕ) (h : Header) (b : Bool) → judged (judge_numbers s) ≡ WellFormed h → checksum_matches (take (h.offset + h.len) s) ≡ b
-    → judged (judge_after_magic s) ≡ cond b (WellFormed h) IllFormed
+pub header_summed : (s : List ℕ) (h : Header) (b : Bool) → judged (judge_numbers s) ≡ Some h → checksum_matches (take (h.offset + h.len) s) ≡ b
+    → judged (judge_after_magic s) ≡ cond b (Some h) None
 header_summed s h b e f = let (c, q, r) = judged_some (judge_numbers s) h e in
     ap judged (fields_summed s c q) ∙ go c r b f
   where
     go : (c : Component) → header_of c ≡ h → (b : Bool) → checksum_matches (take (h.offset + h.len) s) ≡ b
-        → judged (cond (checksum_matches (take (span_length c) s)) (some c) none) ≡ cond b (WellFormed h) IllFormed
-    go c r true f = rw (ap (λ (x : Header). checksum_matches (take (x.offset + x.len) s)) r ∙ f) (ap WellFormed r)
+        → judged (cond (checksum_matches (take (span_length c) s)) (Some c) None) ≡ cond b (Some h) None
+    go c r true f = rw (ap (λ (x : Header). checksum_matches (take (x.offset + x.len) s)) r ∙ f) (ap Some r)
     go c r false f = rw (ap (λ (x : Header). checksum_matches (take (x.offset + x.len) s)) r ∙ f)
 
 -- The judge is the magic's test, then the fields.
@@ -169,7 +168,7 @@ pub judge_fields : (s : List ℕ) → starts_with_magic s ≡ true → judge s �
 unfolding judge
 judge_fields s e = rw e
 
-pub judge_no_magic : (s : List ℕ) → starts_with_magic s ≡ false → judge s ≡ none
+pub judge_no_magic : (s : List ℕ) → starts_with_magic s ≡ false → judge s ≡ None
 unfolding judge
 judge_no_magic s e = rw e
 
@@ -179,21 +178,21 @@ pub unsummed_numbers : (s : List ℕ) → starts_with_magic s ≡ true → judge
 unfolding judge_skipping_sum
 unsummed_numbers s e = rw e
 
-pub unsummed_no_magic : (s : List ℕ) → starts_with_magic s ≡ false → judge_skipping_sum s ≡ none
+pub unsummed_no_magic : (s : List ℕ) → starts_with_magic s ≡ false → judge_skipping_sum s ≡ None
 unfolding judge_skipping_sum
 unsummed_no_magic s e = rw e
 
-pub unsummed_magic : (s : List ℕ) (c : Component) → judge_skipping_sum s ≡ some c → starts_with_magic s ≡ true
+pub unsummed_magic : (s : List ℕ) (c : Component) → judge_skipping_sum s ≡ Some c → starts_with_magic s ≡ true
 unsummed_magic s c e = go (starts_with_magic s) refl
   where
     go : (b : Bool) → starts_with_magic s ≡ b → b ≡ true
     go true q = refl
-    go false q = absurd (none-ne-some c (sym (unsummed_no_magic s q) ∙ e))
+    go false q = absurd (none-some c (sym (unsummed_no_magic s q) ∙ e))
 
-pub unsummed_fits_region : (s : List ℕ) (c : Component) → judge_skipping_sum s ≡ some c → (40 ≤ c.offset) × (span_length c ≤ length s)
+pub unsummed_fits_region : (s : List ℕ) (c : Component) → judge_skipping_sum s ≡ Some c → (40 ≤ c.offset) × (span_length c ≤ length s)
 unsummed_fits_region s c e = unsummed_fits s c (sym (unsummed_numbers s (unsummed_magic s c e)) ∙ e)
 
-pub unsummed_of : (s : List ℕ) (c : Component) → judge_skipping_sum s ≡ some c → checksum_of s ≡ c.checksum
+pub unsummed_of : (s : List ℕ) (c : Component) → judge_skipping_sum s ≡ Some c → checksum_of s ≡ c.checksum
 unfolding component_of
 unsummed_of s c e = ap (λ (x : Component). x.checksum) (unsummed_read s c (sym (unsummed_numbers s (unsummed_magic s c e)) ∙ e)).3
 
@@ -202,13 +201,13 @@ pub judge_unsummed : (s : List ℕ) (o : Option Component) → judge_skipping_su
 judge_unsummed s o e = go (starts_with_magic s) refl o e
   where
     fields_of : (o : Option Component) → judge_numbers s ≡ o → judge_after_magic s ≡ summed_of s o
-    fields_of none q = fields_ill s q
-    fields_of (some c) q = fields_summed s c q
+    fields_of None q = fields_ill s q
+    fields_of (Some c) q = fields_summed s c q
 
     go : (b : Bool) → starts_with_magic s ≡ b → (o : Option Component) → judge_skipping_sum s ≡ o → judge s ≡ summed_of s o
     go true m o q = judge_fields s m ∙ fields_of o (sym (unsummed_numbers s m) ∙ q)
-    go false m none q = judge_no_magic s m
-    go false m (some c) q = absurd (none-ne-some c (sym (unsummed_no_magic s m) ∙ q))
+    go false m None q = judge_no_magic s m
+    go false m (Some c) q = absurd (none-some c (sym (unsummed_no_magic s m) ∙ q))
 
 -- What a judged part is, test by test.
 pub record Formed (s : List ℕ) (c : Component) : Type 0 where
@@ -222,12 +221,12 @@ pub record Formed (s : List ℕ) (c : Component) : Type 0 where
   pub summed : checksum_matches (take (offset_of s + len_of s) s) ≡ true
   pub read : component_of s ≡ c
 
-pub formed : (s : List ℕ) (c : Component) → judge s ≡ some c → Formed s c
+pub formed : (s : List ℕ) (c : Component) → judge s ≡ Some c → Formed s c
 unfolding judge judge_after_magic well_formed header_tests number_tests
 formed s c e = go (starts_with_magic s) refl e
   where
-    go : (b : Bool) → starts_with_magic s ≡ b → cond b (judge_after_magic s) none ≡ some c → Formed s c
-    go false m e' = absurd (none-ne-some _ e')
+    go : (b : Bool) → starts_with_magic s ≡ b → cond b (judge_after_magic s) None ≡ Some c → Formed s c
+    go false m e' = absurd (none-some _ e')
     go true m e' =
         let w = cond_some (well_formed s) (component_of s) c e' in
         let t : (k : ℕ) → get_or (header_tests s (offset_of s) (len_of s)) k true ≡ true = λ k. passes k (header_tests s (offset_of s) (len_of s)) w.0 in
@@ -243,13 +242,13 @@ formed s c e = go (starts_with_magic s) refl e
           read = w.1;
         }
 
-pub unformed : (s : List ℕ) (c : Component) → Formed s c → judge s ≡ some c
+pub unformed : (s : List ℕ) (c : Component) → Formed s c → judge s ≡ Some c
 unfolding judge judge_after_magic well_formed header_tests number_tests
 unformed s c f =
-    rw (f.magic, le-leb _ _ f.long, le-leb _ _ f.least, le-leb _ _ f.most, f.whole, le-leb _ _ f.fits, f.named, f.summed) (ap some f.read)
+    rw (f.magic, le-leb _ _ f.long, le-leb _ _ f.least, le-leb _ _ f.most, f.whole, le-leb _ _ f.fits, f.named, f.summed) (ap Some f.read)
 
 -- A component has 40 bytes or more, and lies in the part.
-pub judge-fits : (s : List ℕ) (c : Component) → judge s ≡ some c → (40 ≤ c.offset) × (span_length c ≤ length s)
+pub judge-fits : (s : List ℕ) (c : Component) → judge s ≡ Some c → (40 ≤ c.offset) × (span_length c ≤ length s)
 unfolding component_of
 judge-fits s c e =
     let f : Formed s c = formed s c e in
@@ -257,20 +256,20 @@ judge-fits s c e =
     let q : offset_of s + len_of s ≡ span_length c = ap span_length f.read in
     (omega (arith, f.least), omega (arith, f.fits))
 
-pub judge-magic : (s : List ℕ) (c : Component) → judge s ≡ some c → starts_with_magic s ≡ true
+pub judge-magic : (s : List ℕ) (c : Component) → judge s ≡ Some c → starts_with_magic s ≡ true
 judge-magic s c e = (formed s c e).magic
 
 -- Its numbers are well formed, whatever its sum.
-pub judge_by_numbers : (s : List ℕ) (c : Component) → judge s ≡ some c → judge_numbers s ≡ some c
+pub judge_by_numbers : (s : List ℕ) (c : Component) → judge s ≡ Some c → judge_numbers s ≡ Some c
 judge_by_numbers s c e = go (judge_numbers s) refl (sym (judge_fields s (judge-magic s c e)) ∙ e)
   where
-    go : (o : Option Component) → judge_numbers s ≡ o → judge_after_magic s ≡ some c → o ≡ some c
-    go none q f = absurd (none-ne-some c (sym (fields_ill s q) ∙ f))
-    go (some x) q f = ap some (cond_some (checksum_matches (take (span_length x) s)) x c (sym (fields_summed s x q) ∙ f)).1
+    go : (o : Option Component) → judge_numbers s ≡ o → judge_after_magic s ≡ Some c → o ≡ Some c
+    go None q f = absurd (none-some c (sym (fields_ill s q) ∙ f))
+    go (Some x) q f = ap Some (cond_some (checksum_matches (take (span_length x) s)) x c (sym (fields_summed s x q) ∙ f)).1
 
 -- Its name is a fit one, and stands after the header; its content is the last len bytes of its span.
 
-pub unsummed_name : (s : List ℕ) (c : Component) → judge_numbers s ≡ some c
+pub unsummed_name : (s : List ℕ) (c : Component) → judge_numbers s ≡ Some c
     → (name_fits c.name ≡ true) × (24 + length c.name ≤ c.offset) × (take (length c.name) (drop 24 s) ≡ c.name)
 unfolding component_of
 unsummed_name s c e = let (least, fits, named, read) = unsummed_read s c e in
@@ -286,11 +285,11 @@ unsummed_name s c e = let (least, fits, named, read) = unsummed_read s c e in
     v : length (name_field s) ≤ offset_of s - 24
     v = rw length-take (min-le_left _ _)
 
-pub judge_name : (s : List ℕ) (c : Component) → judge s ≡ some c
+pub judge_name : (s : List ℕ) (c : Component) → judge s ≡ Some c
     → (name_fits c.name ≡ true) × (24 + length c.name ≤ c.offset) × (take (length c.name) (drop 24 s) ≡ c.name)
 judge_name s c e = unsummed_name s c (judge_by_numbers s c e)
 
-pub judge_content : (s : List ℕ) (c : Component) → judge s ≡ some c → (c.content ≡ take c.len (drop c.offset s)) × (length c.content ≡ c.len)
+pub judge_content : (s : List ℕ) (c : Component) → judge s ≡ Some c → (c.content ≡ take c.len (drop c.offset s)) × (length c.content ≡ c.len)
 unfolding component_of
 judge_content s c e =
     let f : Formed s c = formed s c e in
@@ -347,7 +346,7 @@ module _ (n : ℕ) (s s' : List ℕ) (long : n ≤ length s) (same : take n s' �
       )
 
 -- A component is judged by the bytes of its span alone.
-pub judge_local : (s s' : List ℕ) (c : Component) → judge s ≡ some c → take (span_length c) s' ≡ take (span_length c) s → judge s' ≡ some c
+pub judge_local : (s s' : List ℕ) (c : Component) → judge s ≡ Some c → take (span_length c) s' ≡ take (span_length c) s → judge s' ≡ Some c
 unfolding component_of
 judge_local s s' c e same =
     let f : Formed s c = formed s c e in
@@ -370,27 +369,27 @@ judge_local s s' c e same =
 
 -- The name by what was answered, of the judge or of the numbers alone.
 
-part_named : (s : List ℕ) (o : Option Component) (h : Header) → ((c : Component) → o ≡ some c → judge_numbers s ≡ some c)
-    → judged o ≡ WellFormed h → part_of s 24 h.namelen ≡ name_of o
+part_named : (s : List ℕ) (o : Option Component) (h : Header) → ((c : Component) → o ≡ Some c → judge_numbers s ≡ Some c)
+    → judged o ≡ Some h → part_of s 24 h.namelen ≡ name_of o
 part_named s o h n e = let (c, q, r) = judged_some o h e in go c q r
   where
-    go : (c : Component) → o ≡ some c → header_of c ≡ h → part_of s 24 h.namelen ≡ name_of o
+    go : (c : Component) → o ≡ Some c → header_of c ≡ h → part_of s 24 h.namelen ≡ name_of o
     go c q r =
         let f = unsummed_fits s c (n c q) in
         let m = unsummed_name s c (n c q) in
         subst (λ (x : Header). part_of s 24 x.namelen ≡ name_of o) r
         (sym (part_in s 24 (length c.name) (omega (arith, f.1, m.1))) ∙ m.2 ∙ sym (ap name_of q))
 
-pub part_name : (s : List ℕ) (h : Header) → judged (judge s) ≡ WellFormed h → part_of s 24 h.namelen ≡ name_of (judge s)
+pub part_name : (s : List ℕ) (h : Header) → judged (judge s) ≡ Some h → part_of s 24 h.namelen ≡ name_of (judge s)
 part_name s h e = part_named s (judge s) h (judge_by_numbers s) e
 
-pub part_unsummed : (s : List ℕ) (h : Header) → judged (judge_numbers s) ≡ WellFormed h → part_of s 24 h.namelen ≡ name_of (judge_numbers s)
+pub part_unsummed : (s : List ℕ) (h : Header) → judged (judge_numbers s) ≡ Some h → part_of s 24 h.namelen ≡ name_of (judge_numbers s)
 part_unsummed s h e = part_named s (judge_numbers s) h (λ c q. q) e
 
-pub part_content : (s : List ℕ) (h : Header) → judged (judge s) ≡ WellFormed h → part_of s h.offset h.len ≡ content_of (judge s)
+pub part_content : (s : List ℕ) (h : Header) → judged (judge s) ≡ Some h → part_of s h.offset h.len ≡ content_of (judge s)
 part_content s h e = let (c, q, r) = judged_some (judge s) h e in go c q r
   where
-    go : (c : Component) → judge s ≡ some c → header_of c ≡ h → part_of s h.offset h.len ≡ content_of (judge s)
+    go : (c : Component) → judge s ≡ Some c → header_of c ≡ h → part_of s h.offset h.len ≡ content_of (judge s)
     go c q r =
         subst (λ (x : Header). part_of s x.offset x.len ≡ content_of (judge s)) r
         (sym (part_in s c.offset c.len (judge-fits s c q).1) ∙ sym (judge_content s c q).0 ∙ sym (ap content_of q))

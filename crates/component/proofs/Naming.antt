@@ -80,7 +80,7 @@ length_pos f n q h = go (field_fits f) refl q
 -- the first zero.
 
 printed_before : (f : List ℕ) → all is_printable (before_zero f) ≡ true → length (before_zero f) < length f → printable_prefix f ≡ before_zero f
-unfolding all printable_prefix before_zero
+unfolding printable_prefix before_zero
 printed_before [] p h = absurd (omega arith)
 printed_before (b ∷ f) p h = go (eqb b 0) refl (is_printable b) refl p h (printed_before f)
   where
@@ -95,7 +95,7 @@ printed_before (b ∷ f) p h = go (eqb b 0) refl (is_printable b) refl p h (prin
 
 before_printed : (f : List ℕ) → length (printable_prefix f) < length f → all is_zero (drop (length (printable_prefix f)) f) ≡ true
     → before_zero f ≡ printable_prefix f
-unfolding all printable_prefix before_zero
+unfolding printable_prefix before_zero
 before_printed [] h a = absurd (omega arith)
 before_printed (b ∷ f) h a = go (eqb b 0) refl (is_printable b) refl h a (before_printed f)
   where

@@ -2,13 +2,12 @@
 use Prim.Native.Nat.{ℕ}
 use Rattle.bytes_read.specs.Number.{be, be_bytes}
 use Rattle.bytes_read.specs.Bytes.{eq_bytes}
-use Rattle.bytes_read.specs.Tests.{all}
 use Rattle.component.specs.Names.{name_tests, name_fits, before_zero, field_tests, field_fits}
 use Rattle.component.specs.Sums.{total, span_sum, checksum_matches}
 use Rattle.component.specs.Component.{magic, starts_with_magic, component_of, number_tests, header_tests, well_formed, judge_after_magic, judge, judge_numbers}
 use Rattle.component.specs.Component.{judge_skipping_sum}
 
 unfoldable pub judge_definitions : ℕ
-unfolding be be_bytes eq_bytes all name_tests name_fits before_zero field_tests field_fits magic starts_with_magic total span_sum checksum_matches component_of number_tests
+unfolding be be_bytes eq_bytes name_tests name_fits before_zero field_tests field_fits magic starts_with_magic total span_sum checksum_matches component_of number_tests
     header_tests well_formed judge_after_magic judge judge_numbers judge_skipping_sum
 judge_definitions = 0

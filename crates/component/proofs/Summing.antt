@@ -41,6 +41,13 @@ sum_all s i h = rw (take_all i s h)
 sum_parts : (t u : ℕ) → (t % 4294967296 + u % 4294967296) % 4294967296 ≡ (t + u) % 4294967296
 sum_parts t u = omega arith
 
+-- The first bytes taken off what is left to be summed.
+pub sum_front : (s : List ℕ) (n : ℕ) (t : ℕ) {u v x : ℕ} → u ≡ total (take n s) % 4294967296 → v ≡ (t + u) % 4294967296 → (t + total s) % 4294967296 ≡ x
+    → (v + total (drop n s)) % 4294967296 ≡ x
+sum_front s n t e f g =
+    let w : total s ≡ total (take n s) + total (drop n s) = ap total (sym (take-append-drop n s)) ∙ total-append (take n s) (drop n s) in
+    omega (arith, e, f, g, w)
+
 -- Some bytes more.
 pub sum_block : (s : List ℕ) (i n : ℕ) {t u : ℕ} → t ≡ total (take i s) % 4294967296 → u ≡ total (take n (drop i s)) % 4294967296
     → (t + u) % 4294967296 ≡ total (take (i + n) s) % 4294967296

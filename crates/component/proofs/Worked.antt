@@ -5,7 +5,7 @@ use mathlib.Core.Path.{◌≡◌, refl, ◌∙◌}
 use mathlib.Core.Logic.{inr}
 use mathlib.Core.List.{List, [], ◌∷◌, ◌++◌, map}
 use mathlib.Core.Bool.{Bool, true, false}
-use mathlib.Core.Option.{Option, some, none}
+use Rattle.std.specs.Prelude.{Option, Some, None}
 use lib.ListN.{take, drop, get_or, replicate}
 use lib.Seq.{get_or-take, get_or-drop}
 use borrow.Author.Tests.{eqb-true}
@@ -41,18 +41,18 @@ cal12 sum = record { offset = 40; len = 2; kind = 0x50; checksum = sum; name = 0
 part : List ℕ
 part = stating 0 0 0x04 0x9A
 
-judged_part : judge part ∷ judge (stating 0 0 0 0) ∷ [] ≡ some (cal12 1178) ∷ some (cal12 0) ∷ []
+judged_part : judge part ∷ judge (stating 0 0 0 0) ∷ [] ≡ Some (cal12 1178) ∷ Some (cal12 0) ∷ []
 unfolding judge_definitions part
 judged_part = refl
 
 -- A sum one off, or wrong in any of its bytes, is ill formed; by document 01's tests alone the header is well formed.
 wrong_sums :
     map judge (stating 0 0 0x04 0x9B ∷ stating 0 0 0x04 0x99 ∷ stating 0 0 0x05 0x9A ∷ stating 0 1 0x04 0x9A ∷ stating 1 0 0x04 0x9A ∷ stating 0 0 0 0x9A ∷ [])
-    ≡ none ∷ none ∷ none ∷ none ∷ none ∷ none ∷ []
+    ≡ None ∷ None ∷ None ∷ None ∷ None ∷ None ∷ []
 unfolding judge_definitions
 wrong_sums = refl
 
-unsummed_part : judge_skipping_sum (stating 0 0 0x04 0x9B) ∷ judge_skipping_sum (stating 1 2 3 4) ∷ [] ≡ some (cal12 1179) ∷ some (cal12 0x01020304) ∷ []
+unsummed_part : judge_skipping_sum (stating 0 0 0x04 0x9B) ∷ judge_skipping_sum (stating 1 2 3 4) ∷ [] ≡ Some (cal12 1179) ∷ Some (cal12 0x01020304) ∷ []
 unfolding judge_definitions
 unsummed_part = refl
 
@@ -90,7 +90,7 @@ words_of_part = record {
         rw (byte 30 10 (j - 6) (omega arith), q) at z
 
 -- So the judge finds it.
-found_part : judge part ≡ some (cal12 1178)
+found_part : judge part ≡ Some (cal12 1178)
 unfolding judge_definitions part
 found_part = (judge_exactly part (cal12 1178)).1 (6, words_of_part, refl)
 
@@ -166,10 +166,10 @@ cases =
     ∷ []
 
 abbrev same : Bool → Option Component → Bool
-same true (some c) = true
-same false none = true
-same true none = false
-same false (some c) = false
+same true (Some c) = true
+same false None = true
+same true None = false
+same false (Some c) = false
 
 abbrev agrees : Bool × List ℕ → Bool
 agrees (b, s) = same b (judge s)

@@ -1,14 +1,11 @@
 -- A component, judged on the part of the image that begins at its place (document 01, "Components and the two walks").
-use Rattle.std.specs.Prelude.{ℕ, ◌+◌, ◌-◌, ◌%◌, List, [], ◌∷◌, ◌++◌, Bool, false, cond, length, take, drop, leb, eqb}
-use Rattle.std.proofs.Math.Option.{Option, some, none}
+use Rattle.std.specs.Prelude.{ℕ, ◌+◌, ◌-◌, ◌%◌, List, [], ◌∷◌, ◌++◌, Bool, false, cond, length, take, drop, leb, eqb, Option, Some, None, option_map}
 use Rattle.bytes_read.specs.Number.{be}
 use Rattle.bytes_read.specs.Bytes.{eq_bytes}
 use Rattle.bytes_read.specs.Tests.{all_true}
 use Rattle.component.specs.Names.{before_zero, field_fits}
 use Rattle.component.specs.Sums.{checksum_of, checksum_matches}
 use Rattle.cbfs_types.specs.declared.Header.{Header}
-use Rattle.component.specs.declared.Judged.{Judged}
-use Rattle.component.specs.declared.Judged.TheVariants.{WellFormed, IllFormed}
 
 -- LARCHIVE
 unfoldable pub magic : List ℕ
@@ -78,40 +75,39 @@ well_formed s = all_true (header_tests s (offset_of s) (len_of s))
 
 -- The component by its fields alone, for a part that is known to begin with the magic.
 unfoldable pub judge_after_magic : List ℕ → Option Component
-judge_after_magic s = cond (well_formed s) (some (component_of s)) none
+judge_after_magic s = cond (well_formed s) (Some (component_of s)) None
 
 -- The component that stands at the start of the part, if one does.
 unfoldable pub judge : List ℕ → Option Component
-judge s = cond (starts_with_magic s) (judge_after_magic s) none
+judge s = cond (starts_with_magic s) (judge_after_magic s) None
 
 -- The same by document 01's tests alone, the sum not looked at: for a walk, which takes the sum last, and for a place whose sum was taken already.
 
 unfoldable pub judge_numbers : List ℕ → Option Component
-judge_numbers s = cond (all_true (number_tests s (offset_of s) (len_of s))) (some (component_of s)) none
+judge_numbers s = cond (all_true (number_tests s (offset_of s) (len_of s))) (Some (component_of s)) None
 
 unfoldable pub judge_skipping_sum : List ℕ → Option Component
-judge_skipping_sum s = cond (starts_with_magic s) (judge_numbers s) none
+judge_skipping_sum s = cond (starts_with_magic s) (judge_numbers s) None
 
 -- What the judge answers.
 
 abbrev pub header_of : Component → Header
 header_of c = record { offset = c.offset; len = c.len; kind = c.kind; checksum = c.checksum; namelen = length c.name }
 
-abbrev pub judged : Option Component → Judged
-judged none = IllFormed
-judged (some c) = WellFormed (header_of c)
+abbrev pub judged : Option Component → Option Header
+judged j = option_map header_of j
 
 -- The name and the content of a component; empty where there is none.
 
 abbrev pub name_of : Option Component → List ℕ
-name_of none = []
-name_of (some c) = c.name
+name_of None = []
+name_of (Some c) = c.name
 
 abbrev pub content_of : Option Component → List ℕ
-content_of none = []
-content_of (some c) = c.content
+content_of None = []
+content_of (Some c) = c.content
 
 -- The component bears the name. Where there is none, it bears no name, not even the empty one.
 abbrev pub bears_name : List ℕ → Option Component → Bool
-bears_name name none = false
-bears_name name (some c) = eq_bytes c.name name
+bears_name name None = false
+bears_name name (Some c) = eq_bytes c.name name

@@ -11,13 +11,6 @@ ghost use Rattle.component.specs.Component.{judged, name_of, content_of, bears_n
 
 use cbfs_types::{FIELD_UNIT, HEADER_LEN, Header, NAME_MAX, OFFSET_MAX, OFFSET_MIN};
 
-// What the judge says of a part: the numbers of the header that it begins with, or that none well formed stands there.
-#[derive(Clone, Copy)]
-pub enum Judged {
-    WellFormed(Header),
-    IllFormed,
-}
-
 // The part begins with the magic. The eight bytes are compared as one number: one comparison, where a loop makes eight. Little-endian, the
 // processor's own order, it is one load too, and the search stays small enough to be compiled into each walk.
 pub fn starts_with_magic(s: &[u8]) -> bool
@@ -34,28 +27,18 @@ pub fn starts_with_magic(s: &[u8]) -> bool
 fn all_zero(f: &[u8]) -> bool
     ensures { result ≡ all is_zero f.now }
 {
-    let mut i = 0;
-    while i < f.len() {
-        if f[i] != 0 {
-            return false;
-        }
-        i += 1;
-    }
-    true
+    f.iter().all(|b| *b == 0)
 }
 
 // The bytes are a fit name.
+#[tactic(auto, unfolding(crate::specs::Names::name_fits, crate::specs::Names::name_tests))]
 pub fn name_fits(name: &[u8]) -> bool
     ensures value { result ≡ name_fits name.now }
     ensures kept { name.exit.now ≡ name.entry.now }
 {
-    if name.len() < 1 {
-        return false;
-    }
-    if NAME_MAX < name.len() {
-        return false;
-    }
-    bytes_read::printable_prefix(name, name.len()) == name.len()
+    1 <= name.len()
+        && name.len() <= NAME_MAX
+        && bytes_read::printable_prefix(name, name.len()) == name.len()
 }
 
 // The length of the name in a name field, or 0 where the field is unfit. Each byte is read once.
@@ -76,58 +59,43 @@ pub fn name_length(f: &[u8]) -> usize
     n
 }
 
-// A sum taken one byte further, as a 32-bit number.
-fn add_byte(sum: u32, b: u8) -> u32
-    ensures { result ≡ (sum + b) % 4294967296 }
-{
-    ((sum as u64 + b as u64) % 4294967296) as u32
-}
-
 // The sum of some bytes, as a 32-bit number, one by one.
 fn sum_each(s: &[u8]) -> u32
     ensures { result ≡ total s.now % 4294967296 }
 {
-    let mut t = 0;
-    let mut i = 0;
-    while i < s.len() {
-        t = add_byte(t, s[i]);
-        i += 1;
+    let mut t = 0u32;
+    for b in s {
+        t = t.wrapping_add(u32::from(*b));
     }
     t
-}
-
-// Two sums make one.
-fn add_sums(a: u32, b: u32) -> u32
-    ensures { result ≡ (a + b) % 4294967296 }
-{
-    ((a as u64 + b as u64) % 4294967296) as u32
 }
 
 // How many bytes are summed at a time.
 const SUM_BLOCK: usize = 64;
 
-// The sum of all bytes, as a 32-bit number. In blocks, so that the compiler adds sixteen by one instruction.
+// The sum of all bytes, as a 32-bit number. In blocks of a known length, so that the compiler adds sixteen by one instruction; what is left is at hand
+// behind the loop.
 pub fn sum(s: &[u8]) -> u32
     ensures value { result ≡ total s.now % 4294967296 }
     ensures kept { s.exit.now ≡ s.entry.now }
 {
-    let mut t = 0;
-    let mut i = 0;
-    while i + SUM_BLOCK <= s.len() {
-        t = add_sums(t, sum_each(&s[i..i + SUM_BLOCK]));
-        i += SUM_BLOCK;
+    let mut t = 0u32;
+    let mut rest = s;
+    while let Some((block, after)) = rest.split_first_chunk::<SUM_BLOCK>() {
+        t = t.wrapping_add(sum_each(block));
+        rest = after;
     }
-    add_sums(t, sum_each(&s[i..]))
+    t.wrapping_add(sum_each(rest))
 }
 
 // The sum of the four checksum bytes.
 fn checksum_byte_sum(s: &[u8]) -> u32
     ensures { result ≡ checksum_byte_sum s.now }
 {
-    bytes_read::byte(s, 16) as u32
-        + bytes_read::byte(s, 17) as u32
-        + bytes_read::byte(s, 18) as u32
-        + bytes_read::byte(s, 19) as u32
+    u32::from(bytes_read::byte(s, 16))
+        + u32::from(bytes_read::byte(s, 17))
+        + u32::from(bytes_read::byte(s, 18))
+        + u32::from(bytes_read::byte(s, 19))
 }
 
 // The span states no sum, or the right one. Where it states none, no byte is summed. Its own four bytes are added to the stated sum and not left out
@@ -140,38 +108,38 @@ pub fn checksum_matches(s: &[u8]) -> bool
     if stated == 0 {
         return true;
     }
-    sum(s) == add_sums(stated, checksum_byte_sum(s))
+    sum(s) == stated.wrapping_add(checksum_byte_sum(s))
 }
 
 // The header's numbers and its name field alone, for a part that is known to begin with the magic. The sum is not looked at.
-pub fn judge_numbers(s: &[u8]) -> Judged
+pub fn judge_numbers(s: &[u8]) -> Option<Header>
     ensures value { result ≡ judged (judge_numbers s.now) }
     ensures kept { s.exit.now ≡ s.entry.now }
 {
     if s.len() < HEADER_LEN {
-        return Judged::IllFormed;
+        return None;
     }
     let offset = bytes_read::be32(s, 20) as usize;
     let len = bytes_read::be32(s, 8) as usize;
     let kind = bytes_read::be32(s, 12);
     let checksum = bytes_read::be32(s, 16);
     if offset < OFFSET_MIN {
-        return Judged::IllFormed;
+        return None;
     }
     if OFFSET_MAX < offset {
-        return Judged::IllFormed;
+        return None;
     }
     if (offset - HEADER_LEN) % FIELD_UNIT != 0 {
-        return Judged::IllFormed;
+        return None;
     }
     if s.len() < offset + len {
-        return Judged::IllFormed;
+        return None;
     }
     let namelen = name_length(&s[HEADER_LEN..offset]);
     if namelen == 0 {
-        return Judged::IllFormed;
+        return None;
     }
-    Judged::WellFormed(Header {
+    Some(Header {
         offset,
         len,
         kind,
@@ -181,30 +149,25 @@ pub fn judge_numbers(s: &[u8]) -> Judged
 }
 
 // The header's fields alone, for a part that is known to begin with the magic: its numbers, then its sum.
-pub fn judge_after_magic(s: &[u8]) -> Judged
+pub fn judge_after_magic(s: &[u8]) -> Option<Header>
     ensures value { result ≡ judged (judge_after_magic s.now) }
     ensures kept { s.exit.now ≡ s.entry.now }
 {
-    let j = judge_numbers(s);
-    match j {
-        Judged::IllFormed => Judged::IllFormed,
-        Judged::WellFormed(h) => {
-            let n = h.offset + h.len;
-            if checksum_matches(&s[0..n]) {
-                return Judged::WellFormed(h);
-            }
-            Judged::IllFormed
-        }
+    let h = judge_numbers(s)?;
+    let n = h.offset + h.len;
+    if checksum_matches(&s[..n]) {
+        return Some(h);
     }
+    None
 }
 
 // The component that stands at the start of the part, if one does.
-pub fn judge(s: &[u8]) -> Judged
+pub fn judge(s: &[u8]) -> Option<Header>
     ensures value { result ≡ judged (judge_of s.now) }
     ensures kept { s.exit.now ≡ s.entry.now }
 {
     if !starts_with_magic(s) {
-        return Judged::IllFormed;
+        return None;
     }
     judge_after_magic(s)
 }
@@ -214,10 +177,9 @@ pub fn name(s: &[u8]) -> &[u8]
     ensures result_value { result.now ≡ name_of (judge_of s.now) }
     ensures kept { s.exit.now ≡ s.entry.now }
 {
-    let j = judge(s);
-    match j {
-        Judged::WellFormed(h) => bytes_read::part(s, HEADER_LEN, h.namelen),
-        Judged::IllFormed => &s[0..0],
+    match judge(s) {
+        Some(h) => bytes_read::part(s, HEADER_LEN, h.namelen),
+        None => &s[0..0],
     }
 }
 
@@ -226,14 +188,10 @@ pub fn name_by_numbers(s: &[u8]) -> &[u8]
     ensures result_value { result.now ≡ name_of (judge_numbers s.now) }
     ensures kept { s.exit.now ≡ s.entry.now }
 {
-    let j = judge_numbers(s);
-    match j {
-        Judged::WellFormed(h) => {
-            let n = h.namelen;
-            bytes_read::part(s, HEADER_LEN, n)
-        }
-        Judged::IllFormed => &s[0..0],
-    }
+    let Some(h) = judge_numbers(s) else {
+        return &s[0..0];
+    };
+    bytes_read::part(s, HEADER_LEN, h.namelen)
 }
 
 // The component that stands at the start of the part, by its header's numbers, bears the name: its sum was taken already. Where the name field does
@@ -253,10 +211,9 @@ pub fn is_named(s: &[u8], name: &[u8]) -> bool
     if !bytes_read::equal_by_words(bytes_read::part(s, HEADER_LEN, asked), name) {
         return false;
     }
-    let j = judge_numbers(s);
-    match j {
-        Judged::WellFormed(h) => h.namelen == asked,
-        Judged::IllFormed => false,
+    match judge_numbers(s) {
+        Some(h) => h.namelen == asked,
+        None => false,
     }
 }
 
@@ -265,9 +222,8 @@ pub fn content(s: &[u8]) -> &[u8]
     ensures result_value { result.now ≡ content_of (judge_of s.now) }
     ensures kept { s.exit.now ≡ s.entry.now }
 {
-    let j = judge(s);
-    match j {
-        Judged::WellFormed(h) => bytes_read::part(s, h.offset, h.len),
-        Judged::IllFormed => &s[0..0],
+    match judge(s) {
+        Some(h) => bytes_read::part(s, h.offset, h.len),
+        None => &s[0..0],
     }
 }

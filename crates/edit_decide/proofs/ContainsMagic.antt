@@ -10,7 +10,6 @@ use lib.ListN.{length, get_or, drop, replicate, length-append, length-drop, leng
 use lib.Seq.{take-append-le, drop-append-le, drop-drop, drop_at, get_or-append-add}
 use Rattle.bytes_read.specs.Number.{be_bytes}
 use Rattle.component.specs.Component.{magic, starts_with_magic}
-use Rattle.bytes_read.specs.Lists.{any}
 use Rattle.walk.specs.Walk.{place_count_below, places, magic_at, next_magic, magic_inside, Place}
 use Rattle.walk.proofs.Places.{no_places, below_ge, below_lt, below_unique}
 use Rattle.walk.proofs.Picks.{magic-fits, magic_inside_of}
@@ -212,7 +211,7 @@ module _ (name : List ℕ) (kind : ℕ) (content : List ℕ) where
   -- 16, by the parts.
 
   pub contains_none : (a : ℕ) → a ≡ 0 → contains_magic a s ≡ false
-  unfolding contains_magic magic_inside any places
+  unfolding contains_magic magic_inside places
   contains_none a e = rw (e, no_places (length s))
 
   module _ (a : ℕ) (pos : 0 < a) where

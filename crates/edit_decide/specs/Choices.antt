@@ -1,19 +1,20 @@
 -- What the steps towards an edit answer: the definitions of crates/edit_rules/specs/Edit.antt as the code's own types have them.
-use Rattle.std.specs.Prelude.{ℕ, ◌+◌, ◌*◌, ◌-◌, ◌≡◌, List, cond, length, eqb}
-use Rattle.std.proofs.Math.Option.{Option, some, none}
+use Rattle.std.specs.Prelude.{ℕ, ◌*◌, ◌-◌, ◌≡◌, List, length, Option, Some, None, ok_or, Result, Ok, Err}
 use Rattle.walk.specs.Walk.{place_count_below, plain_listing}
-use Rattle.region.specs.Region.{region_bytes, refusal_by}
+use Rattle.region.specs.Region.{region_bytes, refusal_by, refusal_in}
 use Rattle.cbfs_types.specs.declared.Region.{Region}
 use Rattle.strict_rules.specs.Strict.{component_limit, component_places}
 use Rattle.edit_rules.specs.Edit.{span_bytes, EntrySlot, slot_of, Decision, refuse, write, add_after_check, replace_after_check, remove_after_check, add_decision}
 use Rattle.edit_rules.specs.Edit.{replace_decision, remove_decision}
 use Rattle.edit_slots.specs.SlotsByPlaces.{slot_from}
-use Rattle.edit_slots.specs.declared.SlotSearch.{SlotSearch}
-use Rattle.edit_slots.specs.declared.SlotSearch.TheVariants.{Found, NotFound}
+use Rattle.edit_slots.specs.declared.Slot.{Slot}
 use Rattle.edit_decide.specs.declared.EditKind.{EditKind}
 use Rattle.edit_decide.specs.declared.EditKind.TheVariants.{Add, Replace, Remove}
-use Rattle.edit_decide.specs.declared.Choice.{Choice}
-use Rattle.edit_decide.specs.declared.Choice.TheVariants.{Write, Refuse}
+use Rattle.cbfs_types.specs.declared.Refusal.{Refusal}
+
+-- What an edit decides: the slot to write, or the refusal.
+abbrev pub Choice : Type 0
+Choice = Result Slot Refusal
 
 -- How far the first place at or after n lies from n.
 unfoldable pub distance_to_place : ℕ → ℕ → ℕ
@@ -21,8 +22,8 @@ distance_to_place a n = place_count_below a n * a - n
 
 -- The type that an edit of the slot keeps.
 abbrev pub slot_kind : Option EntrySlot → ℕ
-slot_kind none = 0
-slot_kind (some z) = z.entry.component.kind
+slot_kind None = 0
+slot_kind (Some z) = z.entry.component.kind
 
 abbrev pub kind_of_name : List ℕ → ℕ → List ℕ → ℕ
 kind_of_name r a name = slot_kind (slot_of (length r) name (plain_listing r a))
@@ -43,19 +44,18 @@ kind_for Add r a name kind = kind
 kind_for Replace r a name kind = kind_of_name r a name
 kind_for Remove r a name kind = kind_of_name r a name
 
--- What is decided for a region that begins at s: the slot to write, counted from the region's start, or the refusal. Only 12 reports a place.
+-- What is decided for a region that begins at s: the slot to write, counted from the region's start, or the refusal.
 abbrev pub choice : ℕ → ℕ → Decision → Choice
-choice s k (refuse n p) = Refuse (record { number = n; place = cond (eqb n 12) (s + p) 0 })
-choice s k (write x b) = Write (slot_from x k)
+choice s k (refuse n p) = Err (refusal_in s n p)
+choice s k (write x b) = Ok (slot_from x k)
 
 -- The choice of an edit on an accepted region.
 abbrev pub choice_of : EditKind → ℕ → List ℕ → ℕ → List ℕ → ℕ → List ℕ → Choice
 choice_of e s r a name kind content = choice s (kind_for e r a name kind) (accepted_decision e r a name kind content)
 
 -- The choice of a remove, by the slot that was found: 10 where there is none.
-abbrev pub remove_choice_among : SlotSearch → Choice
-remove_choice_among NotFound = Refuse (refusal_by 10)
-remove_choice_among (Found z) = Write z
+abbrev pub remove_choice_among : Option Slot → Choice
+remove_choice_among z = ok_or z (refusal_by 10)
 
 -- The decisions on the region g of the image i.
 

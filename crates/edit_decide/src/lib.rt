@@ -4,23 +4,16 @@
 
 ghost use Rattle.std.specs.Prelude.{◌≡◌, ℕ, ◌+◌, ◌≤◌, length, ltb};
 ghost use Rattle.walk.specs.Walk.{next_magic};
-ghost use Rattle.region.specs.Region.{refusal_by};
 ghost use Rattle.edit_rules.specs.Edit.{header_for, span_bytes, contains_magic};
 ghost use Rattle.edit_slots.specs.SlotsByPlaces.{slot_among};
 ghost use Rattle.edit_decide.specs.Choices.{distance_to_place, ListedPlaces, choice_of, remove_choice_among, add_choice, replace_choice};
 ghost use Rattle.edit_decide.specs.Choices.{remove_choice, decided};
 
 use cbfs_types::{COMPONENTS_MAX, HEADER_LEN, LEN_MAX, Refusal, Region};
-use edit_slots::{Slot, SlotSearch};
+use edit_slots::Slot;
+use region::refusal_by;
 
-// What an edit decides: the slot to write, or the refusal.
-#[derive(Clone, Copy)]
-pub enum Choice {
-    Write(Slot),
-    Refuse(Refusal),
-}
-
-// The three edits.
+// The three edits. One `match` states once what a closure for each would have to promise.
 #[derive(Clone, Copy)]
 enum EditKind {
     Add,
@@ -36,10 +29,7 @@ fn distance_to_place(align: usize, n: usize) -> usize
         return 0;
     }
     let over = n % align;
-    if over == 0 {
-        return 0;
-    }
-    align - over
+    if over == 0 { 0 } else { align - over }
 }
 
 // The part, which begins at byte `at` of a span, holds the magic at a place of the span.
@@ -78,13 +68,6 @@ fn span_contains_magic(align: usize, name: &[u8], kind: u32, content: &[u8]) -> 
     header_contains_magic(align, name, kind, content)
 }
 
-// A refusal that reports place 0.
-fn refuse(number: u32) -> Choice
-    ensures { result ≡ Choice.Refuse (refusal_by number) }
-{
-    Choice::Refuse(region::refusal_by(number))
-}
-
 // Add, on an accepted region whose components stand at the places ps: 14, 15, 13, 16, 17.
 fn choose_add(
     r: &[u8],
@@ -93,66 +76,64 @@ fn choose_add(
     name: &[u8],
     kind: u32,
     content: &[u8],
-) -> Choice
+) -> Result<Slot, Refusal>
     requires { ListedPlaces r.now align ps.now }
     ensures { (s : ℕ) → result ≡ choice_of EditKind.Add s r.now align name.now kind content.now }
 {
     if !component::name_fits(name) {
-        return refuse(14);
+        return Err(refusal_by(14));
     }
     if edit_slots::name_used(r, ps, name) {
-        return refuse(15);
+        return Err(refusal_by(15));
     }
     if COMPONENTS_MAX <= ps.len() {
-        return refuse(13);
+        return Err(refusal_by(13));
     }
     if span_contains_magic(align, name, kind, content) {
-        return refuse(16);
+        return Err(refusal_by(16));
     }
     let offset = edit_slots::offset_for(name);
     if LEN_MAX - offset < content.len() {
-        return refuse(17);
+        return Err(refusal_by(17));
     }
-    let x = edit_slots::free_run(r, align, ps, offset + content.len(), kind);
-    match x {
-        SlotSearch::Found(z) => Choice::Write(z),
-        SlotSearch::NotFound => refuse(17),
+    match edit_slots::free_run(r, align, ps, offset + content.len(), kind) {
+        Some(z) => Ok(z),
+        None => Err(refusal_by(17)),
     }
 }
 
 // Replace, on such a region: 10, 16, 17.
-fn choose_replace(r: &[u8], align: usize, ps: &[usize], name: &[u8], content: &[u8]) -> Choice
+fn choose_replace(
+    r: &[u8],
+    align: usize,
+    ps: &[usize],
+    name: &[u8],
+    content: &[u8],
+) -> Result<Slot, Refusal>
     requires { ListedPlaces r.now align ps.now }
     ensures { (s k : ℕ) → result ≡ choice_of EditKind.Replace s r.now align name.now k content.now }
 {
-    let x = edit_slots::slot_among(r, ps, name);
-    match x {
-        SlotSearch::NotFound => refuse(10),
-        SlotSearch::Found(z) => {
-            if span_contains_magic(align, name, z.kind, content) {
-                return refuse(16);
-            }
-            let offset = edit_slots::offset_for(name);
-            if LEN_MAX - offset < content.len() {
-                return refuse(17);
-            }
-            if !edit_slots::run_fits(offset + content.len(), z.start, z.end) {
-                return refuse(17);
-            }
-            Choice::Write(z)
-        }
+    let Some(z) = edit_slots::slot_among(r, ps, name) else {
+        return Err(refusal_by(10));
+    };
+    if span_contains_magic(align, name, z.kind, content) {
+        return Err(refusal_by(16));
     }
+    let offset = edit_slots::offset_for(name);
+    if LEN_MAX - offset < content.len() {
+        return Err(refusal_by(17));
+    }
+    if !edit_slots::run_fits(offset + content.len(), z.start, z.end) {
+        return Err(refusal_by(17));
+    }
+    Ok(z)
 }
 
 // Remove, by the places ps: 10.
-fn choose_remove(r: &[u8], ps: &[usize], name: &[u8]) -> Choice
+fn choose_remove(r: &[u8], ps: &[usize], name: &[u8]) -> Result<Slot, Refusal>
     ensures { result ≡ remove_choice_among (slot_among r.now name.now ps.now) }
 {
-    let x = edit_slots::slot_among(r, ps, name);
-    match x {
-        SlotSearch::Found(z) => Choice::Write(z),
-        SlotSearch::NotFound => refuse(10),
-    }
+    edit_slots::slot_among(r, ps, name).ok_or(refusal_by(10))
 }
 
 // One of the three.
@@ -164,7 +145,7 @@ fn choose(
     name: &[u8],
     kind: u32,
     content: &[u8],
-) -> Choice
+) -> Result<Slot, Refusal>
     requires { ListedPlaces r.now align ps.now }
     ensures { (s : ℕ) → result ≡ choice_of edit s r.now align name.now kind content.now }
 {
@@ -183,24 +164,23 @@ fn decide(
     name: &[u8],
     kind: u32,
     content: &[u8],
-) -> Choice
+) -> Result<Slot, Refusal>
     ensures { result ≡ decided edit image.now region name.now kind content.now }
 {
     let mut places = [0usize; COMPONENTS_MAX];
-    let d = strict_check::check_into(image, region, &mut places);
-    if d.number != 0 {
-        return Choice::Refuse(Refusal {
-            number: d.number,
-            place: d.place,
-        });
-    }
-    let n = d.count;
+    let n = strict_check::check_into(image, region, &mut places)?;
     let r = region::bytes(image, region);
-    choose(edit, r, region.align, &places[0..n], name, kind, content)
+    choose(edit, r, region.align, &places[..n], name, kind, content)
 }
 
 // The decision of add on the region of an image.
-pub fn add(image: &[u8], region: Region, name: &[u8], kind: u32, content: &[u8]) -> Choice
+pub fn add(
+    image: &[u8],
+    region: Region,
+    name: &[u8],
+    kind: u32,
+    content: &[u8],
+) -> Result<Slot, Refusal>
     ensures value { result ≡ add_choice image.now region name.now kind content.now }
     ensures kept { (image.exit.now ≡ image.entry.now) × (name.exit.now ≡ name.entry.now) × (content.exit.now ≡ content.entry.now) }
 {
@@ -208,7 +188,7 @@ pub fn add(image: &[u8], region: Region, name: &[u8], kind: u32, content: &[u8])
 }
 
 // The decision of replace on the region of an image.
-pub fn replace(image: &[u8], region: Region, name: &[u8], content: &[u8]) -> Choice
+pub fn replace(image: &[u8], region: Region, name: &[u8], content: &[u8]) -> Result<Slot, Refusal>
     ensures value { result ≡ replace_choice image.now region name.now content.now }
     ensures kept { (image.exit.now ≡ image.entry.now) × (name.exit.now ≡ name.entry.now) × (content.exit.now ≡ content.entry.now) }
 {
@@ -216,7 +196,7 @@ pub fn replace(image: &[u8], region: Region, name: &[u8], content: &[u8]) -> Cho
 }
 
 // The decision of remove on the region of an image.
-pub fn remove(image: &[u8], region: Region, name: &[u8]) -> Choice
+pub fn remove(image: &[u8], region: Region, name: &[u8]) -> Result<Slot, Refusal>
     ensures value { result ≡ remove_choice image.now region name.now }
     ensures kept { (image.exit.now ≡ image.entry.now) × (name.exit.now ≡ name.entry.now) }
 {

@@ -69,10 +69,10 @@ byte_sum_is v = omega arith
 -- The sum of a component, by what was summed.
 pub sum_by : (name : List ℕ) (kind : ℕ) (content : List ℕ) (l k o n c : ℕ)
     → l ≡ total (be_bytes 4 (length content)) → k ≡ total (be_bytes 4 kind) → o ≡ total (be_bytes 4 (offset_for name)) → n ≡ total name % 4294967296
-    → c ≡ total content % 4294967296 → (590 + l + k + o + (n + c)) % 4294967296 ≡ sum_for name kind content
+    → c ≡ total content % 4294967296 → ((590 + l + k + o + n) % 4294967296 + c) % 4294967296 ≡ sum_for name kind content
 unfolding sum_for
 sum_by name kind content l k o n c el ek eo en ec =
     rw (span_sum_lem 0 name kind content, ← el, ← ek, ← eo, en, ec) (low (590 + l + k + o) (total name) (total content))
   where
-    low : (x y z : ℕ) → (x + (y % 4294967296 + z % 4294967296)) % 4294967296 ≡ (x + (y + z)) % 4294967296
+    low : (x y z : ℕ) → ((x + y % 4294967296) % 4294967296 + z % 4294967296) % 4294967296 ≡ (x + (y + z)) % 4294967296
     low x y z = omega arith

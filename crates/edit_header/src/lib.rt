@@ -16,10 +16,10 @@ const MAGIC_SUM: u32 = 590;
 fn byte_sum(v: u32) -> u32
     ensures { (result ≡ total (be_bytes 4 v)) × (result ≤ 1020) }
 {
-    v / 256 / 256 / 256 % 256 + v / 256 / 256 % 256 + v / 256 % 256 + v % 256
+    component::sum(&v.to_be_bytes())
 }
 
-// A length as a header's field has it: its lowest 32 bits.
+// A length as a header's field has it: its lowest 32 bits. By `%`, since `as` asks that the number fits.
 fn field32(n: usize) -> u32
     ensures { be_bytes 4 result ≡ be_bytes 4 n }
 {
@@ -35,8 +35,8 @@ fn sum_for(name: &[u8], kind: u32, content: &[u8]) -> u32
         + byte_sum(field32(content.len()))
         + byte_sum(kind)
         + byte_sum(field32(edit_slots::offset_for(name)));
-    ((head as u64 + (component::sum(name) as u64 + component::sum(content) as u64))
-        % 4294967296) as u32
+    head.wrapping_add(component::sum(name))
+        .wrapping_add(component::sum(content))
 }
 
 // Writes a header over the first 24 bytes of the slot.

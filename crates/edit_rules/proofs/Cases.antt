@@ -6,7 +6,7 @@ use lib.ListN.{length, replicate}
 use lib.Dec.{lit≤}
 use Rattle.bench_image.specs.BenchImage.{larchive, cal, log, head, slot0, slot192, region, region_a, region_summed}
 use Rattle.component.specs.Component.{magic}
-use Rattle.bytes_read.specs.Lists.{any, filter, no_two}
+use Rattle.bytes_read.specs.Lists.{filter, no_two}
 use Rattle.walk.specs.Walk.{Entry, place_count_below, places, magic_at, magic_inside, plain_pick, or_else, first, next_place, step, follow, steps, listing_from}
 use Rattle.walk.specs.Walk.{plain_listing}
 use Rattle.walk_lookup.specs.Lookup.{bears}
@@ -42,25 +42,25 @@ unfoldable list_a : List Entry
 list_a = here 0 0x32 100 ∷ here 192 0x33 24 ∷ []
 
 listed_64 : plain_listing region_a 64 ≡ list_a
-unfolding judge_definitions any filter place_count_below places magic_at plain_pick or_else first next_place step follow steps listing_from bears lists_place is_untaken
+unfolding judge_definitions filter place_count_below places magic_at plain_pick or_else first next_place step follow steps listing_from bears lists_place is_untaken
     untaken_places
     no_two field_length header_bytes field_bytes span_bytes larchive cal head slot0 slot192 region here list_a
 listed_64 = refl
 
 accepted_64 : Accepted region_a 64
-unfolding judge_definitions any filter place_count_below places magic_at plain_pick or_else first next_place step follow steps listing_from bears lists_place is_untaken
+unfolding judge_definitions filter place_count_below places magic_at plain_pick or_else first next_place step follow steps listing_from bears lists_place is_untaken
     untaken_places
     no_two field_length header_bytes field_bytes span_bytes larchive cal head slot0 slot192 region here list_a
 accepted_64 = record { all_taken = refl; at_most = lit≤ tt; names_are_distinct = refl }
 
 listed_16 : plain_listing region_a 16 ≡ list_a
-unfolding judge_definitions any filter place_count_below places magic_at plain_pick or_else first next_place step follow steps listing_from bears lists_place is_untaken
+unfolding judge_definitions filter place_count_below places magic_at plain_pick or_else first next_place step follow steps listing_from bears lists_place is_untaken
     untaken_places
     no_two field_length header_bytes field_bytes span_bytes larchive cal head slot0 slot192 region here list_a
 listed_16 = refl
 
 accepted_16 : Accepted region_a 16
-unfolding judge_definitions any filter place_count_below places magic_at plain_pick or_else first next_place step follow steps listing_from bears lists_place is_untaken
+unfolding judge_definitions filter place_count_below places magic_at plain_pick or_else first next_place step follow steps listing_from bears lists_place is_untaken
     untaken_places
     no_two field_length header_bytes field_bytes span_bytes larchive cal head slot0 slot192 region here list_a
 accepted_16 = record { all_taken = refl; at_most = lit≤ tt; names_are_distinct = refl }
@@ -114,7 +114,7 @@ pub bench :
     ∷ []
     ≡ edit_done 0 ∷ edit_refused 17 0 ∷ edit_done 256 ∷ edit_refused 17 0 ∷ edit_refused 16 0 ∷ edit_done 256 ∷ edit_done 192 ∷ edit_refused 10 0 ∷ edit_refused 10 0
     ∷ edit_refused 15 0 ∷ edit_refused 14 0 ∷ edit_refused 16 0 ∷ []
-unfolding judge_definitions any place_count_below places magic_at magic_inside next_place bears first_start field_length header_bytes field_bytes span_stating sum_for
+unfolding judge_definitions place_count_below places magic_at magic_inside next_place bears first_start field_length header_bytes field_bytes span_stating sum_for
     span_bytes
     contains_magic runs lowest_fitting slot_of add_after_check replace_after_check remove_after_check carried_out larchive cal head slot0 slot192 region log magic_from
     here list_a

@@ -4,7 +4,7 @@ use native.Mathlib.Omega.{arith}
 use mathlib.Core.Path.{◌≡◌, refl, sym, ap, ◌∙◌}
 use mathlib.Core.List.{List, []}
 use mathlib.Core.Bool.{Bool, true, false}
-use mathlib.Core.Option.{Option, some, none}
+use Rattle.std.specs.Prelude.{Option, Some, None}
 use lib.ListN.{length}
 use lib.Dec.{ltb}
 use borrow.Author.Tests.{ltb-true, ltb-false}
@@ -74,9 +74,9 @@ pub data AddCase (most : ℕ) (r : List ℕ) (a : ℕ) (name s : List ℕ) (l : 
   used : name_fits name ≡ true → any (bears name) l ≡ true → add_after_check most r a name s l ≡ refuse 15 0 → AddCase most r a name s l
   full : name_fits name ≡ true → any (bears name) l ≡ false → most ≤ length l → add_after_check most r a name s l ≡ refuse 13 0 → AddCase most r a name s l
   add_has_magic : AddPassesTo13 most name l → contains_magic a s ≡ true → add_after_check most r a name s l ≡ refuse 16 0 → AddCase most r a name s l
-  no_run_fits : AddPassesTo16 most a name s l → lowest_fitting (length s) (runs r a 0 l) ≡ none → add_after_check most r a name s l ≡ refuse 17 0
+  no_run_fits : AddPassesTo16 most a name s l → lowest_fitting (length s) (runs r a 0 l) ≡ None → add_after_check most r a name s l ≡ refuse 17 0
       → AddCase most r a name s l
-  placed : (x : Run) → AddPassesTo16 most a name s l → lowest_fitting (length s) (runs r a 0 l) ≡ some x → add_after_check most r a name s l ≡ write x s
+  placed : (x : Run) → AddPassesTo16 most a name s l → lowest_fitting (length s) (runs r a 0 l) ≡ Some x → add_after_check most r a name s l ≡ write x s
       → AddCase most r a name s l
 
 pub add_case : (most : ℕ) (r : List ℕ) (a : ℕ) (name s : List ℕ) (l : List Entry) → AddCase most r a name s l
@@ -90,19 +90,19 @@ add_case most r a name s l =
     go true p true q d u f v o w = used p q (rw (p, q))
     go true p false q false u f v o w = full p q (ltb-false (length l) most u) (rw (p, q, u))
     go true p false q true u true v o w = add_has_magic (record { named = p; unused = q; at_most = ltb-true (length l) most u }) v (rw (p, q, u, v))
-    go true p false q true u false v none w =
+    go true p false q true u false v None w =
         no_run_fits (record { passes_to_13 = record { named = p; unused = q; at_most = ltb-true (length l) most u }; without_magic = v }) w (rw (p, q, u, v, w))
-    go true p false q true u false v (some x) w =
+    go true p false q true u false v (Some x) w =
         placed x (record { passes_to_13 = record { named = p; unused = q; at_most = ltb-true (length l) most u }; without_magic = v }) w (rw (p, q, u, v, w))
 
 pub data ReplaceCase (a e : ℕ) (name put : List ℕ) (l : List Entry) : Type 0 where
-  no_bearer : slot_of e name l ≡ none → replace_after_check a name put (slot_of e name l) ≡ refuse 10 0 → ReplaceCase a e name put l
-  replace_has_magic : (z : EntrySlot) → slot_of e name l ≡ some z → contains_magic a (span_bytes name z.entry.component.kind put) ≡ true
+  no_bearer : slot_of e name l ≡ None → replace_after_check a name put (slot_of e name l) ≡ refuse 10 0 → ReplaceCase a e name put l
+  replace_has_magic : (z : EntrySlot) → slot_of e name l ≡ Some z → contains_magic a (span_bytes name z.entry.component.kind put) ≡ true
       → replace_after_check a name put (slot_of e name l) ≡ refuse 16 0 → ReplaceCase a e name put l
-  long : (z : EntrySlot) → slot_of e name l ≡ some z → contains_magic a (span_bytes name z.entry.component.kind put) ≡ false
+  long : (z : EntrySlot) → slot_of e name l ≡ Some z → contains_magic a (span_bytes name z.entry.component.kind put) ≡ false
       → run_fits (length (span_bytes name z.entry.component.kind put)) z.run ≡ false → replace_after_check a name put (slot_of e name l) ≡ refuse 17 0
       → ReplaceCase a e name put l
-  fitting : (z : EntrySlot) → slot_of e name l ≡ some z → contains_magic a (span_bytes name z.entry.component.kind put) ≡ false
+  fitting : (z : EntrySlot) → slot_of e name l ≡ Some z → contains_magic a (span_bytes name z.entry.component.kind put) ≡ false
       → run_fits (length (span_bytes name z.entry.component.kind put)) z.run ≡ true
       → replace_after_check a name put (slot_of e name l) ≡ write z.run (span_bytes name z.entry.component.kind put) → ReplaceCase a e name put l
 
@@ -111,8 +111,8 @@ unfolding replace_after_check
 replace_case a e name put l = go (slot_of e name l) refl
   where
     go : (o : Option EntrySlot) → slot_of e name l ≡ o → ReplaceCase a e name put l
-    go none q = no_bearer q (rw q)
-    go (some z) q =
+    go None q = no_bearer q (rw q)
+    go (Some z) q =
         by (contains_magic a (span_bytes name z.entry.component.kind put)) refl
         (run_fits (length (span_bytes name z.entry.component.kind put)) z.run) refl
       where
@@ -124,13 +124,13 @@ replace_case a e name put l = go (slot_of e name l) refl
         by false u true v = fitting z q u v (rw (q, u, v))
 
 pub data RemoveCase (e : ℕ) (name : List ℕ) (l : List Entry) : Type 0 where
-  missing : slot_of e name l ≡ none → remove_after_check (slot_of e name l) ≡ refuse 10 0 → RemoveCase e name l
-  remove_done_case : (z : EntrySlot) → slot_of e name l ≡ some z → remove_after_check (slot_of e name l) ≡ write z.run [] → RemoveCase e name l
+  missing : slot_of e name l ≡ None → remove_after_check (slot_of e name l) ≡ refuse 10 0 → RemoveCase e name l
+  remove_done_case : (z : EntrySlot) → slot_of e name l ≡ Some z → remove_after_check (slot_of e name l) ≡ write z.run [] → RemoveCase e name l
 
 pub remove_case : (e : ℕ) (name : List ℕ) (l : List Entry) → RemoveCase e name l
 unfolding remove_after_check
 remove_case e name l = go (slot_of e name l) refl
   where
     go : (o : Option EntrySlot) → slot_of e name l ≡ o → RemoveCase e name l
-    go none q = missing q (rw q)
-    go (some z) q = remove_done_case z q (rw q)
+    go None q = missing q (rw q)
+    go (Some z) q = remove_done_case z q (rw q)

@@ -5,8 +5,9 @@ use native.Mathlib.Decide.{dec_le}
 use mathlib.Core.Path.{◌≡◌, refl, sym, ap, subst, ◌∙◌}
 use mathlib.Core.List.{List, [], ◌∷◌, ◌++◌, Memᴰ}
 use mathlib.Core.Logic.{◌⊎◌, inl, inr, ◌↔◌}
-use mathlib.Core.Bool.{Bool, true, false, cond, not, true≢false}
-use mathlib.Core.Option.{Option, some, none, none-ne-some}
+use mathlib.Core.Bool.{Bool, true, false, not, ◌&&◌, true≢false}
+use Rattle.std.specs.Prelude.{Option, Some, None}
+use Rattle.std.proofs.lemmas.Option.{none-some}
 use lib.ListN.{length, get_or}
 use lib.Dec.{eqb}
 use borrow.Author.Tests.{lt-ltb, le-ltb, eq-eqb, ne_eqb}
@@ -113,16 +114,16 @@ module _ (r : List ℕ) (a : ℕ) (pos : 0 < a) (small : length r ≤ 0xFFFFFFFF
   )
 
   -- No free run holds n bytes exactly if at no place so many are free.
-  pub no_free : (n : ℕ) → 0 < n → (lowest_fitting n (free_runs r a) ≡ none) ↔ ((q : ℕ) → Place a q → Free r a q n → ⊥)
+  pub no_free : (n : ℕ) → 0 < n → (lowest_fitting n (free_runs r a) ≡ None) ↔ ((q : ℕ) → Place a q → Free r a q n → ⊥)
   no_free n some_byte = (λ e q pl f. lowest_none n (free_runs r a) e q ((fits_run_exactly q n pl).1 f), λ h. go h (lowest_fitting n (free_runs r a)) refl)
     where
       at_place : (x : Run) → Gap a (length r) 0 (guarded_listing r a) x → x.from < x.to → Place a x.from ⊎ (length r ≤ x.from) → Place a x.from
       at_place x g lt (inl p) = p
       at_place x g lt (inr k) = absurd (omega (arith, g.inside))
 
-      go : ((q : ℕ) → Place a q → Free r a q n → ⊥) → (o : Option Run) → lowest_fitting n (free_runs r a) ≡ o → o ≡ none
-      go h none e = refl
-      go h (some x) e =
+      go : ((q : ℕ) → Place a q → Free r a q n → ⊥) → (o : Option Run) → lowest_fitting n (free_runs r a) ≡ o → o ≡ None
+      go h None e = refl
+      go h (Some x) e =
           let m = lowest_some n (free_runs r a) x e in
           let g = gap_of x m.0 in
           absurd (h x.from (at_place x g (omega (arith, m.2)) g.at) (fits_run_free x.from n (m.1, x, m.0, omega arith, m.2)))
@@ -148,7 +149,6 @@ byte_words : (b : ℕ) → Fails (is_printable b) ((b < 0x21) ⊎ (0x7E < b))
 byte_words b = one_fails (either (later_row 0x21 b) (last_fails (later_row b 0x7E)))
 
 all_words : {P : ℕ → Type 0} (t : ℕ → Bool) → ((b : ℕ) → Fails (t b) (P b)) → (l : List ℕ) → Fails (all t l) ((j : ℕ) × (j < length l) × P (get_or l j 0))
-unfolding all
 all_words t f [] = (λ e. absurd (true≢false e), λ h. absurd (omega (arith, h.1)))
 all_words {P} t f (b ∷ l) = go (t b) refl (all_words t f l)
   where
@@ -159,7 +159,7 @@ all_words {P} t f (b ∷ l) = go (t b) refl (all_words t f l)
     head zero h p e = absurd (true≢false (sym e ∙ (f b).1 p))
     head (suc j) h p e = (j, omega arith, p)
 
-    go : (c : Bool) → t b ≡ c → Fails (all t l) (Some l) → Fails (cond c (all t l) false) (Some (b ∷ l))
+    go : (c : Bool) → t b ≡ c → Fails (all t l) (Some l) → Fails (c && all t l) (Some (b ∷ l))
     go true e ih = (λ q. let (j, h, p) = ih.0 q in (suc j, omega arith, p), λ w. ih.1 (head w.0 w.1 w.2 e))
     go false e ih = (λ q. (0, omega arith, (f b).0 e), λ w. refl)
 
@@ -233,7 +233,7 @@ module _ (r : List ℕ) (a : ℕ) (pos : 0 < a) (small : length r ≤ 0xFFFFFFFF
         fit : name_fits name ≡ true → UnfitName name → ⊥
         fit e u = true≢false (sym e ∙ (name_words name).1 u)
 
-        no_run : (lowest_fitting (length s) (free_runs r a) ≡ none) ↔ ((q : ℕ) → Place a q → Free r a q (length s) → ⊥)
+        no_run : (lowest_fitting (length s) (free_runs r a) ≡ None) ↔ ((q : ℕ) → Place a q → Free r a q (length s) → ⊥)
         no_run = no_free r a pos small acc (length s) (omega (arith, length_span name kind content))
 
         go : AddCase component_limit r a name s L
@@ -256,7 +256,7 @@ module _ (r : List ℕ) (a : ℕ) (pos : 0 < a) (small : length r ≤ 0xFFFFFFFF
             denied bearer_words o.passes_to_13.unused,
             inr (
               λ x. omega (arith, o.passes_to_13.at_most),
-              inr (denied (magic_in_lem a pos s) o.without_magic, inr (λ h. none-ne-some x (sym (no_run.1 h) ∙ n), refl)),
+              inr (denied (magic_in_lem a pos s) o.without_magic, inr (λ h. none-some x (sym (no_run.1 h) ∙ n), refl)),
             ),
           ),
         ))
@@ -278,10 +278,10 @@ module _ (r : List ℕ) (a : ℕ) (pos : 0 < a) (small : length r ≤ 0xFFFFFFFF
         same = walks_agree r a acc
 
         -- The slot's component is the only one with the name.
-        it : (z : EntrySlot) → slot_of (length r) name L ≡ some z → Bearer L name z.entry
+        it : (z : EntrySlot) → slot_of (length r) name L ≡ Some z → Bearer L name z.entry
         it z e = let m = slot_member (length r) name L z e in (m.0, bears_name_lem name z.entry m.1)
 
-        only : (z : EntrySlot) → slot_of (length r) name L ≡ some z → (t : Entry) → Bearer L name t → t ≡ z.entry
+        only : (z : EntrySlot) → slot_of (length r) name L ≡ Some z → (t : Entry) → Bearer L name t → t ≡ z.entry
         only z e t b =
             let one : filter (bears t.component.name) L ≡ t ∷ [] = lone L acc.names_are_distinct t b.0 in
             let k : Memᴰ z.entry (filter (bears t.component.name) L) =
@@ -292,14 +292,14 @@ module _ (r : List ℕ) (a : ℕ) (pos : 0 < a) (small : length r ≤ 0xFFFFFFFF
             by (inl q) = sym q
             by (inr m) = absurd (mathlib.Core.List.Memᴰ.not-nil m)
 
-        some_bearer : (z : EntrySlot) → slot_of (length r) name L ≡ some z → NoBearer L name → ⊥
+        some_bearer : (z : EntrySlot) → slot_of (length r) name L ≡ Some z → NoBearer L name → ⊥
         some_bearer z e h = h z.entry (it z e)
 
-        own : (z : EntrySlot) → slot_of (length r) name L ≡ some z → SlotOf a (length r) name L z
+        own : (z : EntrySlot) → slot_of (length r) name L ≡ Some z → SlotOf a (length r) name L z
         own z e = rw same (slot_of_entry r a pos name 0 (guarded_listing r a) (row r a pos) z (rw same at e))
 
         -- The slot holds n bytes, or it is short of them.
-        short : (z : EntrySlot) → slot_of (length r) name L ≡ some z → (n : ℕ) → Fails (run_fits n z.run) (SlotShort r a z.entry n)
+        short : (z : EntrySlot) → slot_of (length r) name L ≡ Some z → (n : ℕ) → Fails (run_fits n z.run) (SlotShort r a z.entry n)
         short z e n = (λ h. there (own z e).ends (dec_le n 0xFFFFFFFF) (dec_le (z.run.from + n) z.run.to) h, back)
           where
             there : Ends (length r) L z.run.to → Dec (n ≤ 0xFFFFFFFF) → Dec (z.run.from + n ≤ z.run.to) → run_fits n z.run ≡ false
@@ -325,7 +325,7 @@ module _ (r : List ℕ) (a : ℕ) (pos : 0 < a) (small : length r ≤ 0xFFFFFFFF
                 go true k = absurd (omega (arith, beyond h, run_fits_true n z.run k))
                 go false k = refl
 
-        clean : (z : EntrySlot) → slot_of (length r) name L ≡ some z → contains_magic a (span_for z.entry) ≡ false
+        clean : (z : EntrySlot) → slot_of (length r) name L ≡ Some z → contains_magic a (span_for z.entry) ≡ false
             → (t : Entry) × Bearer L name t × ContainsMagic a (span_for t) → ⊥
         clean z e b (t, h, m) = denied (magic_in_lem a pos (span_for z.entry)) b (subst (λ (u : Entry). ContainsMagic a (span_for u)) (only z e t h) m)
 
@@ -356,7 +356,7 @@ module _ (r : List ℕ) (a : ℕ) (pos : 0 < a) (small : length r ≤ 0xFFFFFFFF
   pub remove_given : FirstRowMet (check_rows component_limit r a ++ remove_rows r a name) (decision_number (remove_decision component_limit r a name))
   remove_given = after_check_lem r a pos (remove_rows r a name) (remove_after_check (slot_of (length r) name L)) (λ acc. remove_only)
 
-remove_does : (r : List ℕ) (a : ℕ) (name : List ℕ) → Accepted r a → (z : EntrySlot) → slot_of (length r) name (plain_listing r a) ≡ some z
+remove_does : (r : List ℕ) (a : ℕ) (name : List ℕ) → Accepted r a → (z : EntrySlot) → slot_of (length r) name (plain_listing r a) ≡ Some z
     → (remove component_limit r a name).answer ≡ edit_done z.run.from
 unfolding remove remove_after_check
 remove_does r a name acc z e = is_done r _ z.run [] (check_accepted_lem r a (remove_after_check (slot_of (length r) name (plain_listing r a))) acc ∙ rw e)
@@ -404,8 +404,8 @@ add_undone r a big name kind put p typed e = go _ (add_done r a big name kind pu
             }
 
         by : (o : Option EntrySlot) → slot_of (length r') name (plain_listing r' a) ≡ o → Undone r a p name r'
-        by none q =
+        by None q =
             absurd (true≢false (sym borne.1 ∙ any_false (bears name) (plain_listing r' a) ((slot_none_exactly (length r') name (plain_listing r' a)).0 q)
             (at p name kind put) borne.0))
-        by (some z) q = let f = remove_does r' a name d.accepted z q in
+        by (Some z) q = let f = remove_does r' a name d.accepted z q in
             finish z.run.from (same z.run.from (again z.run.from f)) f (again z.run.from f)

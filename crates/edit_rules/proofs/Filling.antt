@@ -7,7 +7,8 @@ use mathlib.Core.Path.{◌≡◌, refl, sym, ap, ◌∙◌}
 use mathlib.Core.List.{List, Memᴰ}
 use mathlib.Core.Logic.{◌⊎◌, inl, inr}
 use mathlib.Core.Bool.{Bool, true, false, not, ◌&&◌, true≢false}
-use mathlib.Core.Option.{some, some-injective}
+use Rattle.std.specs.Prelude.{Some}
+use Rattle.std.proofs.lemmas.Option.{same_Some}
 use lib.ListN.{length, get_or, take, drop, length-drop}
 use lib.Seq.{get_or-take, get_or-drop, take-append-le, drop-append-le, drop-drop}
 use lib.Dec.{leb, ltb, lit<}
@@ -122,7 +123,7 @@ module _ (r : List ℕ) (a : ℕ) (big : 8 ≤ a) (every_taken : EveryMagicTaken
       cell p i pl le lt (inl h) = out_before x i (omega (arith, place_far a p x.from pl free_slot.at h))
       cell p i pl le lt (inr h) = out_after x i (omega arith)
 
-      in_span : (p : ℕ) (h : Component) → Place a p → guarded_pick r a p ≡ some h → (i : ℕ) → p ≤ i → i < p + span_length h → (p < x.from) ⊎ (x.to ≤ p)
+      in_span : (p : ℕ) (h : Component) → Place a p → guarded_pick r a p ≡ Some h → (i : ℕ) → p ≤ i → i < p + span_length h → (p < x.from) ⊎ (x.to ≤ p)
           → in_run x i ≡ false
       in_span p h pl g i le lt (inl k) =
           out_before x i (omega (arith, free_slot.before (record { place = p; component = h }) (guarded_mem r a pos p h pl g) k))
@@ -173,11 +174,11 @@ module _ (r : List ℕ) (a : ℕ) (big : 8 ≤ a) (every_taken : EveryMagicTaken
   abbrev pub new : Entry
   new = record { place = x.from; component = new_component name kind put }
 
-  new_plain : plain_pick r'' x.from ≡ some (new_component name kind put)
+  new_plain : plain_pick r'' x.from ≡ Some (new_component name kind put)
   unfolding plain_pick
   new_plain = rw (filled_part r x s fits free_slot.inside) (judge-written name kind put _ fit typed len-fits)
 
-  pub new_guarded : guarded_pick r'' a x.from ≡ some (new_component name kind put)
+  pub new_guarded : guarded_pick r'' a x.from ≡ Some (new_component name kind put)
   new_guarded = guarded_of r'' a pos₂ x.from (new_component name kind put) new_plain
       (magic_inside_of r'' a pos₂ x.from (span_length (new_component name kind put))
       (λ q pl lt lt'. no_magic r a big every_taken x free_slot s fits clean q pl lt (omega (arith, length_span name kind put))) free_slot.at)
@@ -189,7 +190,7 @@ module _ (r : List ℕ) (a : ℕ) (big : 8 ≤ a) (every_taken : EveryMagicTaken
   pub alone : (u : Entry) → Memᴰ u (guarded_listing r'' a) → in_run x u.place ≡ true → u ≡ new
   alone u m e = go (dec_lt x.from u.place)
     where
-      f : Place a u.place × (u.place < length r'') × (guarded_pick r'' a u.place ≡ some u.component)
+      f : Place a u.place × (u.place < length r'') × (guarded_pick r'' a u.place ≡ Some u.component)
       f = mem_guarded r'' a pos₂ u m
 
       go : Dec (x.from < u.place) → u ≡ record { place = x.from; component = new_component name kind put }
@@ -198,7 +199,7 @@ module _ (r : List ℕ) (a : ℕ) (big : 8 ≤ a) (every_taken : EveryMagicTaken
           ∙ no_magic r a big every_taken x free_slot s fits clean u.place f.0 lt (in_true x u.place e).1))
       go (no n) =
           let q : u.place ≡ x.from = omega (arith, in_true x u.place e) in
-          entry_eq u (record { place = x.from; component = new_component name kind put }) q (some-injective _ _ (sym f.2 ∙ rw q new_guarded))
+          entry_eq u (record { place = x.from; component = new_component name kind put }) q (same_Some _ _ (sym f.2 ∙ rw q new_guarded))
 
   -- What is listed afterwards: what was listed outside the run, with the component put in.
   pub new_listing : guarded_listing r'' a ≡ insert_entry new (filter (λ t. not (in_run x t.place)) (guarded_listing r a))
@@ -209,6 +210,6 @@ module _ (r : List ℕ) (a : ℕ) (big : 8 ≤ a) (every_taken : EveryMagicTaken
   new_every_taken =
       still_every_taken r r'' a big (in_run x) (frame r a big every_taken x free_slot s fits) every_taken (λ p pl e c. go p pl e c (dec_lt x.from p))
     where
-      go : (p : ℕ) → Place a p → in_run x p ≡ true → magic_at r'' p ≡ true → Dec (x.from < p) → (h : Component) × (guarded_pick r'' a p ≡ some h)
+      go : (p : ℕ) → Place a p → in_run x p ≡ true → magic_at r'' p ≡ true → Dec (x.from < p) → (h : Component) × (guarded_pick r'' a p ≡ Some h)
       go p pl e c (yes lt) = absurd (true≢false (sym c ∙ no_magic r a big every_taken x free_slot s fits clean p pl lt (in_true x p e).1))
       go p pl e c (no n) = let q : p ≡ x.from = omega (arith, in_true x p e) in (new_component name kind put, rw q new_guarded)

@@ -103,7 +103,7 @@ length-replace t [] = refl
 length-replace t (x ∷ xs) = ap suc (length-replace t xs)
 
 any_insert : (f : Entry → Bool) (t : Entry) (l : List Entry) → f t ≡ false → any f l ≡ false → any f (insert_entry t l) ≡ false
-unfolding insert_entry any
+unfolding insert_entry
 any_insert f t [] p q = rw p
 any_insert f t (x ∷ xs) p q = go (ltb t.place x.place) (any_insert f t xs p (or_false (f x) (any f xs) q).1)
   where
@@ -122,7 +122,7 @@ bears_not n t h = go (eq_bytes t.component.name n) refl
 
 pub distinct_insert : (t : Entry) (l : List Entry) → any (bears t.component.name) l ≡ false → distinct_names l ≡ true
     → distinct_names (insert_entry t l) ≡ true
-unfolding insert_entry no_two any
+unfolding insert_entry no_two
 distinct_insert t [] p q = refl
 distinct_insert t (x ∷ xs) p q = go (ltb t.place x.place) (distinct_insert t xs o.1 s.1)
   where
@@ -151,7 +151,7 @@ chosen : (t : Entry) (x : Entry) (xs : List Entry) → SameName t (x ∷ xs) →
 chosen t x xs h = chosen_name t x (eqb x.place t.place) (λ e. h x (Memᴰ.head refl) (eqb-true x.place t.place e))
 
 any-replace : (n : List ℕ) (t : Entry) (l : List Entry) → SameName t l → any (bears n) (replace_entry t l) ≡ any (bears n) l
-unfolding replace_entry any bears
+unfolding replace_entry bears
 any-replace n t [] h = refl
 any-replace n t (x ∷ xs) h = rw (chosen t x xs h, any-replace n t xs (λ u m. h u (Memᴰ.tail m)))
 

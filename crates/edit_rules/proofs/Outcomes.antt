@@ -6,7 +6,7 @@ use mathlib.Core.Path.{◌≡◌, refl, sym, ap, ◌∙◌}
 use mathlib.Core.List.{List, [], ◌∷◌, Memᴰ}
 use mathlib.Core.Logic.{◌⊎◌, inl, inr}
 use mathlib.Core.Bool.{Bool, true, false, not, true≢false}
-use mathlib.Core.Option.{some}
+use Rattle.std.specs.Prelude.{Some}
 use lib.ListN.{length, get_or}
 use lib.Dec.{eqb}
 use borrow.Author.Tests.{eq-eqb, ne_eqb}
@@ -128,7 +128,7 @@ other r r' a acc acc' name same c = record {
 -- Add, into a free run.
 module _ (r : List ℕ) (a : ℕ) (big : 8 ≤ a) (acc : Accepted r a) (name : List ℕ) (kind : ℕ) (put : List ℕ) (typed : kind < 256 ^ 4)
     (ok : AddPassesTo16 component_limit a name (span_bytes name kind put) (plain_listing r a))
-    (x : Run) (low : lowest_fitting (length (span_bytes name kind put)) (free_runs r a) ≡ some x) where
+    (x : Run) (low : lowest_fitting (length (span_bytes name kind put)) (free_runs r a) ≡ Some x) where
   abbrev pos : 0 < a
   pos = omega arith
 
@@ -235,7 +235,7 @@ module _ (r : List ℕ) (a : ℕ) (big : 8 ≤ a) (acc : Accepted r a) (name : L
       go i e true c = absurd (true≢false (sym (own i c) ∙ e))
 
 -- A slot that is filled anew.
-module _ (r : List ℕ) (a : ℕ) (big : 8 ≤ a) (acc : Accepted r a) (name : List ℕ) (z : EntrySlot) (is : slot_of (length r) name (plain_listing r a) ≡ some z) where
+module _ (r : List ℕ) (a : ℕ) (big : 8 ≤ a) (acc : Accepted r a) (name : List ℕ) (z : EntrySlot) (is : slot_of (length r) name (plain_listing r a) ≡ Some z) where
   abbrev pos₂ : 0 < a
   pos₂ = omega arith
 

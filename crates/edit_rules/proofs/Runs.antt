@@ -6,7 +6,8 @@ use mathlib.Core.List.Memᴰ
 use mathlib.Core.List.{List, [], ◌∷◌, Memᴰ}
 use mathlib.Core.Logic.{◌⊎◌, inl, inr}
 use mathlib.Core.Bool.{Bool, true, false, cond, ◌&&◌, ◌||◌, true≢false}
-use mathlib.Core.Option.{some, none, some-injective, none-ne-some, some-ne-none}
+use Rattle.std.specs.Prelude.{Some, None}
+use Rattle.std.proofs.lemmas.Option.{same_Some, none-some}
 use lib.ListN.{length}
 use lib.Dec.{leb, ltb, eqb}
 use borrow.Author.Tests.{leb-true, le-leb, eq-eqb, ne_eqb}
@@ -151,39 +152,39 @@ module _ (r : List ℕ) (a : ℕ) (pos : 0 < a) where
           (x, Memᴰ.tail i, u, v)
 
 -- The lowest run that holds n bytes: none exactly if none does.
-pub lowest_none : (n : ℕ) (l : List Run) → lowest_fitting n l ≡ none → (q : ℕ) → FitsRunAt n l q → ⊥
+pub lowest_none : (n : ℕ) (l : List Run) → lowest_fitting n l ≡ None → (q : ℕ) → FitsRunAt n l q → ⊥
 unfolding lowest_fitting
 lowest_none n [] e q (few, x, m, u, v) = Memᴰ.not-nil m
 lowest_none n (y ∷ ys) e q (few, x, m, u, v) = go (run_fits n y) refl e (Memᴰ.cases_cons m) (λ e' k. lowest_none n ys e' q (few, x, k, u, v))
   where
-    go : (b : Bool) → run_fits n y ≡ b → cond b (some y) (lowest_fitting n ys) ≡ none → (x ≡ y) ⊎ Memᴰ x ys
-        → (lowest_fitting n ys ≡ none → Memᴰ x ys → ⊥) → ⊥
-    go true h e' c ih = some-ne-none _ e'
+    go : (b : Bool) → run_fits n y ≡ b → cond b (Some y) (lowest_fitting n ys) ≡ None → (x ≡ y) ⊎ Memᴰ x ys
+        → (lowest_fitting n ys ≡ None → Memᴰ x ys → ⊥) → ⊥
+    go true h e' c ih = none-some _ (sym e')
     go false h e' (inl z) ih = true≢false (sym (run_fits_of n y few (omega (arith, ap (λ (w : Run). w.from) z, ap (λ (w : Run). w.to) z))) ∙ h)
     go false h e' (inr k) ih = ih e' k
 
-pub lowest_some : (n : ℕ) (l : List Run) (x : Run) → lowest_fitting n l ≡ some x → Memᴰ x l × (n ≤ 0xFFFFFFFF) × (x.from + n ≤ x.to)
+pub lowest_some : (n : ℕ) (l : List Run) (x : Run) → lowest_fitting n l ≡ Some x → Memᴰ x l × (n ≤ 0xFFFFFFFF) × (x.from + n ≤ x.to)
 unfolding lowest_fitting
-lowest_some n [] x e = absurd (none-ne-some x e)
+lowest_some n [] x e = absurd (none-some x e)
 lowest_some n (y ∷ ys) x e = go (run_fits n y) refl e (λ e'. lowest_some n ys x e')
   where
-    go : (b : Bool) → run_fits n y ≡ b → cond b (some y) (lowest_fitting n ys) ≡ some x
-        → (lowest_fitting n ys ≡ some x → Memᴰ x ys × (n ≤ 0xFFFFFFFF) × (x.from + n ≤ x.to))
+    go : (b : Bool) → run_fits n y ≡ b → cond b (Some y) (lowest_fitting n ys) ≡ Some x
+        → (lowest_fitting n ys ≡ Some x → Memᴰ x ys × (n ≤ 0xFFFFFFFF) × (x.from + n ≤ x.to))
         → Memᴰ x (y ∷ ys) × (n ≤ 0xFFFFFFFF) × (x.from + n ≤ x.to)
-    go true h e' ih = let q : y ≡ x = some-injective _ _ e' in (Memᴰ.head (sym q), (run_fits_true n y h).0, rw (← q) (run_fits_true n y h).1)
+    go true h e' ih = let q : y ≡ x = same_Some _ _ e' in (Memᴰ.head (sym q), (run_fits_true n y h).0, rw (← q) (run_fits_true n y h).1)
     go false h e' ih = (Memᴰ.tail (ih e').0, (ih e').1, (ih e').2)
 
 module _ (r : List ℕ) (a : ℕ) (pos : 0 < a) where
   -- No run that holds n bytes begins lower.
-  pub lowest_least : (n k : ℕ) (l : List Entry) → Place a k ⊎ (length r ≤ k) → Row a (length r) k l → (x : Run) → lowest_fitting n (runs r a k l) ≡ some x
+  pub lowest_least : (n k : ℕ) (l : List Entry) → Place a k ⊎ (length r ≤ k) → Row a (length r) k l → (x : Run) → lowest_fitting n (runs r a k l) ≡ Some x
       → (q : ℕ) → FitsRunAt n (runs r a k l) q → x.from ≤ q
   unfolding runs lowest_fitting
   lowest_least n k [] pl w x g q (few, y, m, u, v) = go (run_fits n (record { from = k; to = length r })) g (Memᴰ.cases_cons m)
     where
-      go : (b : Bool) → cond b (some (record { from = k; to = (length r) })) none ≡ some x → (y ≡ record { from = k; to = (length r) }) ⊎ Memᴰ y []
+      go : (b : Bool) → cond b (Some (record { from = k; to = (length r) })) None ≡ Some x → (y ≡ record { from = k; to = (length r) }) ⊎ Memᴰ y []
           → x.from ≤ q
-      go false g' c = absurd (none-ne-some x g')
-      go true g' (inl z) = omega (arith, ap (λ (w : Run). w.from) z, ap (λ (w : Run). w.from) (some-injective _ _ g'))
+      go false g' c = absurd (none-some x g')
+      go true g' (inl z) = omega (arith, ap (λ (w : Run). w.from) z, ap (λ (w : Run). w.from) (same_Some _ _ g'))
       go true g' (inr i) = absurd (Memᴰ.not-nil i)
   lowest_least n k (t ∷ ts) pl w x g q (few, y, m, u, v) = go (run_fits n (record { from = k; to = t.place })) refl g (Memᴰ.cases_cons m)
       (λ g' i. lowest_least n (next r a t) ts (next_place_end r a (entry_end t)) (next_place_on r a k pos t ts w) x g' q (few, y, i, u, v))
@@ -192,10 +193,10 @@ module _ (r : List ℕ) (a : ℕ) (pos : 0 < a) where
       low = (mem_runs r a pos k (t ∷ ts) pl w y (unfold runs in m)).from
 
       go : (b : Bool) → run_fits n (record { from = k; to = t.place }) ≡ b
-          → cond b (some (record { from = k; to = t.place })) (lowest_fitting n (runs r a (next r a t) ts)) ≡ some x
+          → cond b (Some (record { from = k; to = t.place })) (lowest_fitting n (runs r a (next r a t) ts)) ≡ Some x
           → (y ≡ record { from = k; to = t.place }) ⊎ Memᴰ y (runs r a (next r a t) ts)
-          → (lowest_fitting n (runs r a (next r a t) ts) ≡ some x → Memᴰ y (runs r a (next r a t) ts) → x.from ≤ q) → x.from ≤ q
-      go true h g' c ih = omega (arith, low, ap (λ (w : Run). w.from) (some-injective _ _ g'))
+          → (lowest_fitting n (runs r a (next r a t) ts) ≡ Some x → Memᴰ y (runs r a (next r a t) ts) → x.from ≤ q) → x.from ≤ q
+      go true h g' c ih = omega (arith, low, ap (λ (w : Run). w.from) (same_Some _ _ g'))
       go false h g' (inl z) ih =
           absurd (true≢false (sym (run_fits_of n (record { from = k; to = t.place }) few
           (omega (arith, ap (λ (w : Run). w.from) z, ap (λ (w : Run). w.to) z))) ∙ h))
@@ -222,10 +223,10 @@ module _ (r : List ℕ) (a : ℕ) (pos : 0 < a) where
   start_ends t [] = inl (omega arith)
   start_ends t (u ∷ us) = inr (u, Memᴰ.tail (Memᴰ.head refl), refl)
 
-  pub slot_of_entry : (name : List ℕ) (n : ℕ) (l : List Entry) → Row a (length r) n l → (z : EntrySlot) → slot_of (length r) name l ≡ some z
+  pub slot_of_entry : (name : List ℕ) (n : ℕ) (l : List Entry) → Row a (length r) n l → (z : EntrySlot) → slot_of (length r) name l ≡ Some z
       → SlotOf a (length r) name l z
   unfolding slot_of
-  slot_of_entry name n [] w z g = absurd (none-ne-some z g)
+  slot_of_entry name n [] w z g = absurd (none-some z g)
   slot_of_entry name n (t ∷ ts) w z g = go (bears name t) refl g (λ g'. slot_of_entry name (next r a t) ts (next_place_on r a n pos t ts w) z g')
     where
       now : (d : Entry) → (d ≡ t) ⊎ Memᴰ d ts → (d ≡ t) ⊎ ((entry_end d ≤ t.place) ⊎ (first_start (length r) ts ≤ d.place))
@@ -242,9 +243,9 @@ module _ (r : List ℕ) (a : ℕ) (pos : 0 < a) where
           ))))
       later o d (inr k) = o.sides d k
 
-      go : (b : Bool) → bears name t ≡ b → cond b (some (record { entry = t; run = record { from = t.place; to = first_start (length r) ts } }))
-          (slot_of (length r) name ts) ≡ some z → (slot_of (length r) name ts ≡ some z → SlotOf a (length r) name ts z) → SlotOf a (length r) name (t ∷ ts) z
-      go true h g' ih = subst (λ (y : EntrySlot). SlotOf a (length r) name (t ∷ ts) y) (some-injective _ _ g') (record {
+      go : (b : Bool) → bears name t ≡ b → cond b (Some (record { entry = t; run = record { from = t.place; to = first_start (length r) ts } }))
+          (slot_of (length r) name ts) ≡ Some z → (slot_of (length r) name ts ≡ Some z → SlotOf a (length r) name ts z) → SlotOf a (length r) name (t ∷ ts) z
+      go true h g' ih = subst (λ (y : EntrySlot). SlotOf a (length r) name (t ∷ ts) y) (same_Some _ _ g') (record {
         listed = Memᴰ.head refl;
         borne = h;
         from = refl;
@@ -269,10 +270,10 @@ module _ (r : List ℕ) (a : ℕ) (pos : 0 < a) where
   within_none set (t ∷ ts) i h = rw (h t (Memᴰ.head refl), within_none set ts i (λ d m. h d (Memᴰ.tail m)))
 
   -- The slot's bytes are those that the strict check's slots have for its start.
-  pub slot_within : (name : List ℕ) (n : ℕ) (l : List Entry) → Row a (length r) n l → (z : EntrySlot) → slot_of (length r) name l ≡ some z → (i : ℕ)
+  pub slot_within : (name : List ℕ) (n : ℕ) (l : List Entry) → Row a (length r) n l → (z : EntrySlot) → slot_of (length r) name l ≡ Some z → (i : ℕ)
       → in_slots_of (λ q. eqb q z.run.from) (length r) l i ≡ in_run z.run i
   unfolding slot_of in_slots_of in_run
-  slot_within name n [] w z g i = absurd (none-ne-some z g)
+  slot_within name n [] w z g i = absurd (none-some z g)
   slot_within name n (t ∷ ts) w z g i =
       go (bears name t) refl g (λ g'. slot_of_entry name (next r a t) ts (next_place_on r a n pos t ts w) z g')
       (λ g'. slot_within name (next r a t) ts (next_place_on r a n pos t ts w) z g' i)
@@ -294,10 +295,10 @@ module _ (r : List ℕ) (a : ℕ) (pos : 0 < a) where
                 (λ d m. ne_eqb d.place t.place (λ q. omega (arith, w.up.0 d m))),
           ) (last _)
 
-      go : (b : Bool) → bears name t ≡ b → cond b (some (record { entry = t; run = record { from = t.place; to = first_start (length r) ts } }))
-          (slot_of (length r) name ts) ≡ some z → (slot_of (length r) name ts ≡ some z → SlotOf a (length r) name ts z)
-          → (slot_of (length r) name ts ≡ some z → in_slots_of (λ q. eqb q z.run.from) (length r) ts i ≡ (leb z.run.from i && ltb i z.run.to)) → Goal z
-      go true h g' o ih = subst Goal (some-injective _ _ g') now
+      go : (b : Bool) → bears name t ≡ b → cond b (Some (record { entry = t; run = record { from = t.place; to = first_start (length r) ts } }))
+          (slot_of (length r) name ts) ≡ Some z → (slot_of (length r) name ts ≡ Some z → SlotOf a (length r) name ts z)
+          → (slot_of (length r) name ts ≡ Some z → in_slots_of (λ q. eqb q z.run.from) (length r) ts i ≡ (leb z.run.from i && ltb i z.run.to)) → Goal z
+      go true h g' o ih = subst Goal (same_Some _ _ g') now
       go false h g' o ih =
           let k = o g' in
           rw (ne_eqb t.place z.run.from (λ q. omega (arith, k.from, w.up.0 z.entry k.listed))) (ih g')

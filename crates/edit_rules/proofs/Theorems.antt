@@ -7,7 +7,8 @@ use mathlib.Core.Path.{◌≡◌, refl, sym, ap, subst, ◌∙◌}
 use mathlib.Core.List.{List, [], ◌∷◌, Memᴰ}
 use mathlib.Core.Logic.{◌↔◌}
 use mathlib.Core.Bool.{Bool, true, false, cond, ◌||◌, true≢false}
-use mathlib.Core.Option.{some, none, some-ne-none, none-ne-some}
+use Rattle.std.specs.Prelude.{Some, None}
+use Rattle.std.proofs.lemmas.Option.{none-some}
 use lib.ListN.{length, drop}
 use lib.Seq.{get_or-drop}
 use Rattle.bytes_read.specs.Number.{be}
@@ -52,27 +53,27 @@ listed_kind r a h t m =
 
 -- The slot of a name's bearer, and no slot where no component has it.
 
-pub slot_member : (e : ℕ) (name : List ℕ) (l : List Entry) (z : EntrySlot) → slot_of e name l ≡ some z → Memᴰ z.entry l × (bears name z.entry ≡ true)
+pub slot_member : (e : ℕ) (name : List ℕ) (l : List Entry) (z : EntrySlot) → slot_of e name l ≡ Some z → Memᴰ z.entry l × (bears name z.entry ≡ true)
 unfolding slot_of
-slot_member e name [] z g = absurd (none-ne-some z g)
+slot_member e name [] z g = absurd (none-some z g)
 slot_member e name (t ∷ ts) z g = go (bears name t) refl g (slot_member e name ts z)
   where
-    go : (b : Bool) → bears name t ≡ b → cond b (some (record { entry = t; run = record { from = t.place; to = first_start e ts } })) (slot_of e name ts)
-        ≡ some z
-        → (slot_of e name ts ≡ some z → Memᴰ z.entry ts × (bears name z.entry ≡ true))
+    go : (b : Bool) → bears name t ≡ b → cond b (Some (record { entry = t; run = record { from = t.place; to = first_start e ts } })) (slot_of e name ts)
+        ≡ Some z
+        → (slot_of e name ts ≡ Some z → Memᴰ z.entry ts × (bears name z.entry ≡ true))
         → Memᴰ z.entry (t ∷ ts) × (bears name z.entry ≡ true)
     go true h g' ih = let q : t ≡ z.entry = cc in (Memᴰ.head (sym q), rw (← q) h)
     go false h g' ih = let m = ih g' in (Memᴰ.tail m.0, m.1)
 
-pub slot_none_exactly : (e : ℕ) (name : List ℕ) (l : List Entry) → (slot_of e name l ≡ none) ↔ (any (bears name) l ≡ false)
-unfolding slot_of any
+pub slot_none_exactly : (e : ℕ) (name : List ℕ) (l : List Entry) → (slot_of e name l ≡ None) ↔ (any (bears name) l ≡ false)
+unfolding slot_of
 slot_none_exactly e name [] = (λ q. refl, λ q. refl)
 slot_none_exactly e name (t ∷ ts) = go (bears name t) (slot_none_exactly e name ts)
   where
-    go : (b : Bool) → (slot_of e name ts ≡ none) ↔ (any (bears name) ts ≡ false)
-        → (cond b (some (record { entry = t; run = record { from = t.place; to = first_start e ts } })) (slot_of e name ts) ≡ none) ↔
+    go : (b : Bool) → (slot_of e name ts ≡ None) ↔ (any (bears name) ts ≡ false)
+        → (cond b (Some (record { entry = t; run = record { from = t.place; to = first_start e ts } })) (slot_of e name ts) ≡ None) ↔
         (b || any (bears name) ts ≡ false)
-    go true ih = (λ q. absurd (some-ne-none _ q), λ q. absurd (true≢false q))
+    go true ih = (λ q. absurd (none-some _ (sym q)), λ q. absurd (true≢false q))
     go false ih = ih
 
 -- 16, in the paper's words: the bytes carry the magic, wholly, at a multiple of a above 0.
@@ -102,7 +103,7 @@ module _ (r : List ℕ) (a : ℕ) where
       go f.0 (add_case component_limit r a name (span_bytes name kind put) (plain_listing r a)) d.run d.bytes f.1 d.place _ d.after
     where
       by : Accepted r a → AddPassesTo16 component_limit a name (span_bytes name kind put) (plain_listing r a) → (y : Run)
-          → lowest_fitting (length (span_bytes name kind put)) (free_runs r a) ≡ some y
+          → lowest_fitting (length (span_bytes name kind put)) (free_runs r a) ≡ Some y
           → (x : Run) (s : List ℕ) → y ≡ x → span_bytes name kind put ≡ s → x.from ≡ p → (r' : List ℕ) → r' ≡ slot_filled r x s → Added r a name kind put p r'
       by acc ok y low x s u b q r' h = rw (h, ← b, ← q, ← u) (added r a big acc name kind put typed ok y low)
 
@@ -124,7 +125,7 @@ module _ (r : List ℕ) (a : ℕ) where
       let f = check_write r a (replace_after_check a name put (slot_of (length r) name (plain_listing r a))) d.run d.bytes d.writes in
       go f.0 (replace_case a (length r) name put (plain_listing r a)) d.run d.bytes f.1 d.place _ d.after
     where
-      by : Accepted r a → (z : EntrySlot) → slot_of (length r) name (plain_listing r a) ≡ some z
+      by : Accepted r a → (z : EntrySlot) → slot_of (length r) name (plain_listing r a) ≡ Some z
           → contains_magic a (span_bytes name z.entry.component.kind put) ≡ false
           → run_fits (length (span_bytes name z.entry.component.kind put)) z.run ≡ true → (x : Run) (s : List ℕ) → z.run ≡ x
           → span_bytes name z.entry.component.kind put ≡ s
@@ -152,7 +153,7 @@ module _ (r : List ℕ) (a : ℕ) where
       let f = check_write r a (remove_after_check (slot_of (length r) name (plain_listing r a))) d.run d.bytes d.writes in
       go f.0 (remove_case (length r) name (plain_listing r a)) d.run d.bytes f.1 d.place _ d.after
     where
-      by : Accepted r a → (z : EntrySlot) → slot_of (length r) name (plain_listing r a) ≡ some z → (x : Run) (s : List ℕ) → z.run ≡ x → [] ≡ s → x.from ≡ p
+      by : Accepted r a → (z : EntrySlot) → slot_of (length r) name (plain_listing r a) ≡ Some z → (x : Run) (s : List ℕ) → z.run ≡ x → [] ≡ s → x.from ≡ p
           → (r' : List ℕ) → r' ≡ slot_filled r x s → Removed r a name p r'
       by acc z own x s u b q r' h = rw (h, ← b, ← q, ← u) (removed r a big acc name z own)
 

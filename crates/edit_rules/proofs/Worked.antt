@@ -3,10 +3,9 @@ use Prim.Native.Nat.{ℕ}
 use mathlib.Core.Path.{◌≡◌, refl}
 use mathlib.Core.List.{List, [], ◌∷◌, ◌++◌}
 use mathlib.Core.Bool.{true, false}
-use mathlib.Core.Option.{some, none}
+use Rattle.std.specs.Prelude.{Some, None}
 use lib.ListN.{replicate}
 use Rattle.bytes_read.specs.Bytes.{eq_bytes, splice}
-use Rattle.bytes_read.specs.Lists.{any}
 use Rattle.component.specs.Component.{magic, starts_with_magic}
 use Rattle.walk.specs.Walk.{Entry, place_count_below, places, magic_at, magic_inside, next_place}
 use Rattle.walk_lookup.specs.Lookup.{bears}
@@ -36,7 +35,7 @@ span = refl
 contains_worked : contains_magic 16 (replicate 16 0 ++ magic) ∷ contains_magic 16 (replicate 15 0 ++ magic) ∷ contains_magic 16 magic ∷ contains_magic 16
     (replicate 16 0 ++ (76 ∷ 65 ∷ 82 ∷ 67 ∷ 72 ∷ 73 ∷ 86 ∷ [])) ∷ contains_magic 32 (replicate 16 0 ++ magic) ∷ []
     ≡ true ∷ false ∷ false ∷ false ∷ false ∷ []
-unfolding contains_magic magic_inside any magic_at places place_count_below magic starts_with_magic eq_bytes
+unfolding contains_magic magic_inside magic_at places place_count_below magic starts_with_magic eq_bytes
 contains_worked = refl
 
 -- The run from 10 to 15 holds 5 bytes and not 6; no run holds 2^32.
@@ -46,7 +45,7 @@ held : run_fits 5 (bytes 10 15) ∷ run_fits 6 (bytes 10 15) ∷ run_fits 0 (byt
 held = refl
 
 -- Of the runs that hold 5 bytes, the first; none where none does.
-first : (lowest_fitting 5 (bytes 0 4 ∷ bytes 10 15 ∷ bytes 20 40 ∷ []) ≡ some (bytes 10 15)) × (lowest_fitting 5 (bytes 0 4 ∷ bytes 10 14 ∷ []) ≡ none)
+first : (lowest_fitting 5 (bytes 0 4 ∷ bytes 10 15 ∷ bytes 20 40 ∷ []) ≡ Some (bytes 10 15)) × (lowest_fitting 5 (bytes 0 4 ∷ bytes 10 14 ∷ []) ≡ None)
 unfolding lowest_fitting
 first = (refl, refl)
 
@@ -62,7 +61,7 @@ written = refl
 abbrev nothing : ℕ → Entry
 nothing p = record { place = p; component = record { offset = 0; len = 0; kind = 0; checksum = 0; name = []; content = [] } }
 
-removed_worked : carried_out eight (remove_after_check (some (record { entry = nothing 2; run = bytes 2 6 })))
+removed_worked : carried_out eight (remove_after_check (Some (record { entry = nothing 2; run = bytes 2 6 })))
     ≡ record { answer = edit_done 2; bytes = 1 ∷ 2 ∷ 255 ∷ 255 ∷ 255 ∷ 255 ∷ 7 ∷ 8 ∷ [] }
 unfolding carried_out remove_after_check slot_filled splice
 removed_worked = refl
@@ -96,7 +95,7 @@ add_order :
     ∷ adds 2 ab (replicate 24 0) []
     ∷ []
     ≡ 14 ∷ 15 ∷ 13 ∷ 16 ∷ 17 ∷ 0 ∷ []
-unfolding judge_definitions any bears contains_magic magic_inside magic_at places place_count_below field_length header_bytes field_bytes span_stating sum_for span_bytes
+unfolding judge_definitions bears contains_magic magic_inside magic_at places place_count_below field_length header_bytes field_bytes span_stating sum_for span_bytes
     next_place runs lowest_fitting add_after_check
 add_order = refl
 
@@ -108,16 +107,16 @@ add_full :
     ∷ adds 256 (97 ∷ []) [] (replicate 256 there)
     ∷ []
     ≡ 17 ∷ 13 ∷ 17 ∷ 13 ∷ []
-unfolding judge_definitions any bears contains_magic magic_inside magic_at places place_count_below field_length header_bytes field_bytes span_stating sum_for span_bytes
+unfolding judge_definitions bears contains_magic magic_inside magic_at places place_count_below field_length header_bytes field_bytes span_stating sum_for span_bytes
     next_place runs lowest_fitting add_after_check
 add_full = refl
 
 abbrev replaces : List ℕ → ℕ
-replaces content = decision_number (replace_after_check 16 ab content (some (record { entry = there; run = bytes 0 64 })))
+replaces content = decision_number (replace_after_check 16 ab content (Some (record { entry = there; run = bytes 0 64 })))
 
-replace_order : decision_number (replace_after_check 16 ab [] none) ∷ replaces (with_magic ++ replicate 65 0) ∷ replaces (replicate 25 0) ∷ replaces
+replace_order : decision_number (replace_after_check 16 ab [] None) ∷ replaces (with_magic ++ replicate 65 0) ∷ replaces (replicate 25 0) ∷ replaces
     (replicate 24 0) ∷ []
     ≡ 10 ∷ 16 ∷ 17 ∷ 0 ∷ []
-unfolding judge_definitions any contains_magic magic_inside magic_at places place_count_below field_length header_bytes field_bytes span_stating sum_for span_bytes
+unfolding judge_definitions contains_magic magic_inside magic_at places place_count_below field_length header_bytes field_bytes span_stating sum_for span_bytes
     replace_after_check
 replace_order = refl

@@ -3,12 +3,13 @@ use Prim.Native.Nat.{ℕ, zero, suc, ◌+◌, ◌*◌, ◌-◌, ◌%◌, ◌^◌
 use native.Mathlib.Omega.{arith}
 use mathlib.Core.Path.{◌≡◌, refl, sym, ap, ◌∙◌}
 use mathlib.Core.List.{List, [], ◌∷◌, ◌++◌, append_assoc}
-use mathlib.Core.Bool.{Bool, true, false, cond, false≢true}
-use mathlib.Core.Option.{some}
+use mathlib.Core.Bool.{Bool, true, false, cond}
+use Rattle.std.specs.Prelude.{Some}
 use lib.ListN.{length, get_or, take, drop, replicate, length-drop, length-append, length-replicate, get_or-replicate, get_or-append}
 use lib.Seq.{get_or-take, get_or-drop, take_at, drop_at, get_or-append-add, length-take-le, drop-drop}
 use lib.Dec.{leb, eqb}
 use borrow.Author.Tests.{leb-true, le-leb, lt-ltb, ne_eqb, eq-eqb}
+use Rattle.bytes_read.proofs.Tested.{both_true}
 use Rattle.bytes_read.specs.Number.{be, be_bytes}
 use Rattle.bytes_read.specs.Bytes.{eq_bytes, splice}
 use Rattle.bytes_read.specs.Tests.{all}
@@ -59,14 +60,9 @@ name_fit name e = record {
   printable = passes 2 (name_tests name) e;
 }
 
-cond_true : (t u : Bool) → cond t u false ≡ true → (t ≡ true) × (u ≡ true)
-cond_true true u e = (refl, e)
-cond_true false u e = absurd (false≢true e)
-
 printable_cons : (b : ℕ) (bs : List ℕ) → all is_printable (b ∷ bs) ≡ true → (eqb b 0 ≡ false) × (all is_printable bs ≡ true)
-unfolding all
 printable_cons b bs e =
-    let u = cond_true (is_printable b) (all is_printable bs) e in
+    let u = both_true (is_printable b) (all is_printable bs) e in
     (ne_eqb b 0 (λ z. omega (arith, leb-true 0x21 b (passes 0 (leb 0x21 b ∷ leb b 0x7E ∷ []) u.0))), u.1)
 
 before_name : (name : List ℕ) (k : ℕ) → all is_printable name ≡ true → before_zero (name ++ replicate k 0) ≡ name
@@ -76,7 +72,6 @@ before_name [] (suc k) h = refl
 before_name (b ∷ name) k h = let q = printable_cons b name h in rw (q.0, before_name name k q.1)
 
 all_zeros : (k : ℕ) → all is_zero (replicate k 0) ≡ true
-unfolding all
 all_zeros zero = refl
 all_zeros (suc k) = all_zeros k
 
@@ -298,7 +293,7 @@ module _ (name : List ℕ) (kind : ℕ) (content rest : List ℕ) (fit : Fit nam
   long = simp (length-append, length_span) (omega arith)
 
   -- The round trip: a written component judges as what was written.
-  pub judge-written : judge s ≡ some (new_component name kind content)
+  pub judge-written : judge s ≡ Some (new_component name kind content)
   judge-written = unformed s (new_component name kind content) (record {
     magic = rw parts (header_magic_lem (length content) kind sum (offset_for name) (field_bytes name ++ (content ++ rest)));
     long = omega (arith, long);

@@ -1,8 +1,8 @@
 -- The edits of a region's bytes r at the alignment a (document 01, "Edits", refusals 10 to 17): what each answers, and the bytes afterwards.
 -- Places are counted from the region's start.
-use Rattle.std.specs.Prelude.{ℕ, ◌+◌, ◌*◌, ◌-◌, ◌/◌, ◌≤◌, ◌<◌, ◌≡◌, ◌⊎◌, Bool, true, false, cond, not, ◌&&◌, length, get_or, replicate, ltb, leb, eqb}
+use Rattle.std.specs.Prelude.{ℕ, ◌+◌, ◌*◌, ◌-◌, ◌/◌, ◌≤◌, ◌<◌, ◌≡◌, ◌⊎◌, Bool, true, false, cond, not, ◌&&◌, length, get_or, replicate, ltb, leb, eqb, Option}
+use Rattle.std.specs.Prelude.{Some, None}
 use mathlib.Core.List.{List, [], ◌∷◌, ◌++◌, Memᴰ}
-use Rattle.std.proofs.Math.Option.{Option, some, none}
 use Rattle.bytes_read.specs.Number.{be_bytes}
 use Rattle.bytes_read.specs.Bytes.{splice}
 use Rattle.component.specs.Component.{Component, magic}
@@ -71,8 +71,8 @@ free_runs r a = runs r a 0 (plain_listing r a)
 
 -- "Add uses the lowest place at which the component fits a free run": the first run that holds n bytes.
 unfoldable pub lowest_fitting : ℕ → List Run → Option Run
-lowest_fitting n [] = none
-lowest_fitting n (x ∷ xs) = let rest = lowest_fitting n xs in cond (run_fits n x) (some x) rest
+lowest_fitting n [] = None
+lowest_fitting n (x ∷ xs) = let rest = lowest_fitting n xs in cond (run_fits n x) (Some x) rest
 
 -- A component with its slot: up to the next component's start, or the region's end.
 pub record EntrySlot : Type 0 where
@@ -81,9 +81,9 @@ pub record EntrySlot : Type 0 where
 
 -- The slot of the first bearer of the name; e is the region's end.
 unfoldable pub slot_of : ℕ → List ℕ → List Entry → Option EntrySlot
-slot_of e name [] = none
+slot_of e name [] = None
 slot_of e name (t ∷ ts) = let rest = slot_of e name ts in
-    cond (bears name t) (some (record { entry = t; run = record { from = t.place; to = first_start e ts } })) rest
+    cond (bears name t) (Some (record { entry = t; run = record { from = t.place; to = first_start e ts } })) rest
 
 -- "After the written span, every byte to the next component's start or the region's end is 0xFF": the region with the slot x written anew.
 unfoldable pub slot_filled : List ℕ → Run → List ℕ → List ℕ
@@ -105,8 +105,8 @@ after_check (check_refused n p) d = refuse n p
 after_check (check_accepted ps) d = d
 
 abbrev pub write_into : List ℕ → Option Run → Decision
-write_into s none = refuse 17 0
-write_into s (some x) = write x s
+write_into s None = refuse 17 0
+write_into s (Some x) = write x s
 
 -- Add, with the components l listed and at most that many allowed: 14, 15, 13, 16, 17.
 unfoldable pub add_after_check : ℕ → List ℕ → ℕ → List ℕ → List ℕ → List Entry → Decision
@@ -120,14 +120,14 @@ add_after_check most r a name s l = or_refused (
 
 -- Replace: 10, 16, 17. It "keeps place, name and type, writes the whole component anew and must fit the slot".
 unfoldable pub replace_after_check : ℕ → List ℕ → List ℕ → Option EntrySlot → Decision
-replace_after_check a name content none = refuse 10 0
-replace_after_check a name content (some z) = let s = span_bytes name z.entry.component.kind content in
+replace_after_check a name content None = refuse 10 0
+replace_after_check a name content (Some z) = let s = span_bytes name z.entry.component.kind content in
     or_refused (test 16 (not (contains_magic a s)) ∷ test 17 (run_fits (length s) z.run) ∷ []) (write z.run s)
 
 -- Remove: 10. It "sets the whole slot to 0xFF".
 unfoldable pub remove_after_check : Option EntrySlot → Decision
-remove_after_check none = refuse 10 0
-remove_after_check (some z) = write z.run []
+remove_after_check None = refuse 10 0
+remove_after_check (Some z) = write z.run []
 
 -- What is answered: a refusal's number and the place that it reports, or the place of the component.
 pub data RegionEditAnswer : Type 0 where

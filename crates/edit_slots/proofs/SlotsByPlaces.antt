@@ -6,8 +6,9 @@ use native.Mathlib.Omega.{arith}
 use mathlib.Core.Path.{◌≡◌, refl, ap}
 use mathlib.Core.List.Memᴰ
 use mathlib.Core.List.{List, [], ◌∷◌}
-use mathlib.Core.Bool.{Bool, true, false}
-use mathlib.Core.Option.{some}
+use mathlib.Core.Bool.{Bool, true, false, cond, ◌||◌}
+use Rattle.std.specs.Option.{is_some}
+use Rattle.std.specs.Prelude.{Some, None}
 use lib.ListN.{length, drop, get_or, drop_of_length-le}
 use lib.Seq.{drop-cons, get_or-drop}
 use Rattle.bytes_read.specs.Lists.{any}
@@ -22,16 +23,14 @@ use Rattle.strict_check.specs.StrictCheck.{has_name}
 use Rattle.strict_check.proofs.Names.{Judged, listed, same_any}
 use Rattle.edit_rules.specs.Edit.{Run, run_fits, runs, free_runs, lowest_fitting, slot_of}
 use Rattle.edit_slots.specs.SlotsByPlaces.{run, free_run_answer, slot_answer, slot_from, span_end, runs_between, slot_among}
-use Rattle.edit_slots.specs.declared.Slot.{Slot}
-use Rattle.edit_slots.specs.declared.SlotSearch.TheVariants.{Found, NotFound}
 
 -- One run.
 
-pub run_yes : (n from to k : ℕ) → run_fits n (run from to) ≡ true → Found (slot_from (run from to) k) ≡ free_run_answer k (lowest_fitting n (run from to ∷ []))
+pub run_yes : (n from to k : ℕ) → run_fits n (run from to) ≡ true → Some (slot_from (run from to) k) ≡ free_run_answer k (lowest_fitting n (run from to ∷ []))
 unfolding lowest_fitting
 run_yes n from to k e = rw e
 
-pub run_no : (n from to k : ℕ) → run_fits n (run from to) ≡ false → NotFound ≡ free_run_answer k (lowest_fitting n (run from to ∷ []))
+pub run_no : (n from to k : ℕ) → run_fits n (run from to) ≡ false → None ≡ free_run_answer k (lowest_fitting n (run from to ∷ []))
 unfolding lowest_fitting
 run_no n from to k e = rw e
 
@@ -53,7 +52,7 @@ module _ (r ps : List ℕ) (i : ℕ) where
     unfolding runs_between
     runs_end h = rw (drop_of_length-le ps h)
 
-    pub runs_here : i < length ps → run_fits n (run m (get_or ps i 0)) ≡ true → lowest_fitting n (runs_between r a m (drop i ps)) ≡ some (run m (get_or ps i 0))
+    pub runs_here : i < length ps → run_fits n (run m (get_or ps i 0)) ≡ true → lowest_fitting n (runs_between r a m (drop i ps)) ≡ Some (run m (get_or ps i 0))
     unfolding runs_between lowest_fitting
     runs_here h y = rw (drop-cons ps i 0 h, y)
 
@@ -63,12 +62,12 @@ module _ (r ps : List ℕ) (i : ℕ) where
     runs_on h y = rw (drop-cons ps i 0 h, y, add-one i)
 
   module _ (name : List ℕ) where
-    pub slot_end : length ps ≤ i → slot_among r name (drop i ps) ≡ NotFound
+    pub slot_end : length ps ≤ i → slot_among r name (drop i ps) ≡ None
     unfolding slot_among
     slot_end h = rw (drop_of_length-le ps h)
 
     pub slot_here : i < length ps → has_name r name (get_or ps i 0) ≡ true
-        → slot_among r name (drop i ps) ≡ Found (slot_from (run (get_or ps i 0) (get_or ps (i + 1) (length r))) (be 4 (drop (get_or ps i 0) r) 12))
+        → slot_among r name (drop i ps) ≡ Some (slot_from (run (get_or ps i 0) (get_or ps (i + 1) (length r))) (be 4 (drop (get_or ps i 0) r) 12))
     unfolding slot_among
     slot_here h y = rw (drop-cons ps i 0 h, y, add-one i, get_or-drop (suc i) ps 0 (length r), add-zero)
 
@@ -78,23 +77,15 @@ module _ (r ps : List ℕ) (i : ℕ) where
 
 -- A name has a slot exactly if it is used.
 
-pub used_yes : (r name ps : List ℕ) (z : Slot) → slot_among r name ps ≡ Found z → any (has_name r name) ps ≡ true
-unfolding slot_among any
-used_yes r name [] z e = let o : ◌≡◌ {A = ℕ} 0 1 = cc in absurd (omega arith)
-used_yes r name (p ∷ ps) z e = go (has_name r name p) refl (λ f. used_yes r name ps z f)
+pub used_is : (r name ps : List ℕ) → is_some (slot_among r name ps) ≡ any (has_name r name) ps
+unfolding slot_among
+used_is r name [] = refl
+used_is r name (p ∷ ps) = go (has_name r name p) (used_is r name ps)
   where
-    go : (b : Bool) → has_name r name p ≡ b → (slot_among r name ps ≡ Found z → any (has_name r name) ps ≡ true) → any (has_name r name) (p ∷ ps) ≡ true
-    go true q ih = rw q
-    go false q ih = rw q (ih (rw q at e))
-
-pub used_no : (r name ps : List ℕ) → slot_among r name ps ≡ NotFound → any (has_name r name) ps ≡ false
-unfolding slot_among any
-used_no r name [] e = refl
-used_no r name (p ∷ ps) e = go (has_name r name p) refl (λ f. used_no r name ps f)
-  where
-    go : (b : Bool) → has_name r name p ≡ b → (slot_among r name ps ≡ NotFound → any (has_name r name) ps ≡ false) → any (has_name r name) (p ∷ ps) ≡ false
-    go true q ih = let f : Found _ ≡ NotFound = rw q at e in let o : ◌≡◌ {A = ℕ} 0 1 = cc in absurd (omega arith)
-    go false q ih = rw q (ih (rw q at e))
+    go : (b : Bool) → is_some (slot_among r name ps) ≡ any (has_name r name) ps
+        → is_some (cond b (Some (slot_from (run p (get_or ps 0 (length r))) (be 4 (drop p r) 12))) (slot_among r name ps)) ≡ (b || any (has_name r name) ps)
+    go true ih = refl
+    go false ih = ih
 
 -- Now the places are those of a listing.
 
@@ -102,12 +93,12 @@ found_tail : (r : List ℕ) (t : Entry) (l : List Entry) → Judged r (t ∷ l) 
 found_tail r t l j u m = j u (Memᴰ.tail m)
 
 -- A component's numbers as its header has them.
-fields_read : (s : List ℕ) (c : Component) → judge_numbers s ≡ some c → (be 4 s 20 ≡ c.offset) × (be 4 s 8 ≡ c.len) × (be 4 s 12 ≡ c.kind)
+fields_read : (s : List ℕ) (c : Component) → judge_numbers s ≡ Some c → (be 4 s 20 ≡ c.offset) × (be 4 s 8 ≡ c.len) × (be 4 s 12 ≡ c.kind)
 unfolding component_of
 fields_read s c e = let f = (unsummed_read s c e).3 in (ap (λ (x : Component). x.offset) f, ap (λ (x : Component). x.len) f, ap (λ (x : Component). x.kind) f)
 
 -- A component as it is found at its place: its end, its type and its name.
-module _ (r : List ℕ) (t : Entry) (e : judge_numbers (drop t.place r) ≡ some t.component) where
+module _ (r : List ℕ) (t : Entry) (e : judge_numbers (drop t.place r) ≡ Some t.component) where
   end_at : span_end r t.place ≡ entry_end t
   end_at = let f = fields_read (drop t.place r) t.component e in omega (arith, f.0, f.1)
 
@@ -136,7 +127,7 @@ module _ (r : List ℕ) where
     slot_found [] j = refl
     slot_found (t ∷ l) j = go (bears name t) refl (slot_found l (found_tail r t l j))
       where
-        e : judge_numbers (drop t.place r) ≡ some t.component
+        e : judge_numbers (drop t.place r) ≡ Some t.component
         e = j t (Memᴰ.head refl)
 
         go : (b : Bool) → bears name t ≡ b → slot_among r name (component_places l) ≡ slot_answer (slot_of (length r) name l)

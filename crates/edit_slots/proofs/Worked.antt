@@ -6,7 +6,7 @@ use Rattle.bench_image.specs.BenchImage.{larchive, cal, head, slot0, slot192, re
 use Rattle.walk.specs.Walk.{place_count_below, next_place}
 use Rattle.strict_check.specs.StrictCheck.{has_name}
 use Rattle.edit_slots.specs.SlotsByPlaces.{run, slot_from, span_end, runs_between, slot_among}
-use Rattle.edit_slots.specs.declared.SlotSearch.TheVariants.{Found, NotFound}
+use Rattle.std.specs.Prelude.{Some, None}
 use Rattle.component.proofs.Opened.{judge_definitions}
 
 ends : span_end region_a 0 ∷ span_end region_a 192 ∷ span_end region_a 5000 ∷ [] ≡ 140 ∷ 256 ∷ 5000 ∷ []
@@ -24,7 +24,7 @@ between = refl
 -- cal/12's slot goes up to the next place, whichever that is; cal/13's up to the end. A place without a component is passed over.
 slots : slot_among region_a (cal 0x32) (0 ∷ 192 ∷ []) ∷ slot_among region_a (cal 0x32) (0 ∷ [])
     ∷ slot_among region_a (cal 0x33) (64 ∷ 192 ∷ []) ∷ slot_among region_a (cal 0x34) (0 ∷ 192 ∷ []) ∷ []
-    ≡ Found (slot_from (run 0 192) 0xFFFFFFFF) ∷ Found (slot_from (run 0 3072) 0xFFFFFFFF)
-    ∷ Found (slot_from (run 192 3072) 0xFFFFFFFF) ∷ NotFound ∷ []
+    ≡ Some (slot_from (run 0 192) 0xFFFFFFFF) ∷ Some (slot_from (run 0 3072) 0xFFFFFFFF)
+    ∷ Some (slot_from (run 192 3072) 0xFFFFFFFF) ∷ None ∷ []
 unfolding judge_definitions larchive cal head slot0 slot192 region has_name slot_among
 slots = refl

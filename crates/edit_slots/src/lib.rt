@@ -19,13 +19,6 @@ pub struct Slot {
     pub kind: u32,
 }
 
-// The slot that an edit writes, or that none was found.
-#[derive(Clone, Copy)]
-pub enum SlotSearch {
-    Found(Slot),
-    NotFound,
-}
-
 // The offset of a component of that name, as it is written.
 pub fn offset_for(name: &[u8]) -> usize
     ensures value { result ≡ offset_for name.now }
@@ -38,27 +31,21 @@ pub fn offset_for(name: &[u8]) -> usize
 pub fn run_fits(n: usize, from: usize, to: usize) -> bool
     ensures { result ≡ run_fits n (run from to) }
 {
-    if LEN_MAX < n {
-        return false;
-    }
-    if to < from {
-        return false;
-    }
-    n <= to - from
+    n <= LEN_MAX && from <= to && n <= to - from
 }
 
 // The run after the last component, for a component of this type, if it holds n bytes.
-fn last_run(n: usize, from: usize, to: usize, kind: u32) -> SlotSearch
+fn last_run(n: usize, from: usize, to: usize, kind: u32) -> Option<Slot>
     ensures { result ≡ free_run_answer kind (lowest_fitting n (run from to ∷ [])) }
 {
     if run_fits(n, from, to) {
-        return SlotSearch::Found(Slot {
+        return Some(Slot {
             start: from,
             end: to,
             kind,
         });
     }
-    SlotSearch::NotFound
+    None
 }
 
 // The end of the span at p, by the numbers that stand in the header there. The judge is not asked again.
@@ -73,23 +60,20 @@ fn span_end(r: &[u8], p: usize) -> usize
 }
 
 // The lowest of the runs between the spans at the places ps that holds n bytes, for a component of this type.
-pub fn free_run(r: &[u8], align: usize, ps: &[usize], n: usize, kind: u32) -> SlotSearch
+pub fn free_run(r: &[u8], align: usize, ps: &[usize], n: usize, kind: u32) -> Option<Slot>
     ensures value { result ≡ free_run_answer kind (lowest_fitting n (runs_between r.now align 0 ps.now)) }
     ensures kept { (r.exit.now ≡ r.entry.now) × (ps.exit.now ≡ ps.entry.now) }
 {
     let mut from = 0;
-    let mut i = 0;
-    while i < ps.len() {
-        let p = ps[i];
-        if run_fits(n, from, p) {
-            return SlotSearch::Found(Slot {
+    for p in ps {
+        if run_fits(n, from, *p) {
+            return Some(Slot {
                 start: from,
-                end: p,
+                end: *p,
                 kind,
             });
         }
-        from = walk::next_place(r, align, span_end(r, p));
-        i += 1;
+        from = walk::next_place(r, align, span_end(r, *p));
     }
     last_run(n, from, r.len(), kind)
 }
@@ -98,31 +82,25 @@ pub fn free_run(r: &[u8], align: usize, ps: &[usize], n: usize, kind: u32) -> Sl
 fn next_start(ps: &[usize], k: usize, e: usize) -> usize
     ensures { result ≡ get_or ps.now k e }
 {
-    if k < ps.len() {
-        return ps[k];
-    }
-    e
+    ps.get(k).copied().unwrap_or(e)
 }
 
 // The slot of the first component at the places ps that bears the name.
-pub fn slot_among(r: &[u8], ps: &[usize], name: &[u8]) -> SlotSearch
+pub fn slot_among(r: &[u8], ps: &[usize], name: &[u8]) -> Option<Slot>
     ensures value { result ≡ slot_among r.now name.now ps.now }
     ensures kept { (r.exit.now ≡ r.entry.now) × (ps.exit.now ≡ ps.entry.now) × (name.exit.now ≡ name.entry.now) }
 {
-    let mut i = 0;
-    while i < ps.len() {
-        let p = ps[i];
-        let s = bytes_read::rest(r, p);
+    for (i, p) in ps.iter().enumerate() {
+        let s = bytes_read::rest(r, *p);
         if component::is_named(s, name) {
-            return SlotSearch::Found(Slot {
-                start: p,
+            return Some(Slot {
+                start: *p,
                 end: next_start(ps, i + 1, r.len()),
                 kind: bytes_read::be32(s, 12),
             });
         }
-        i += 1;
     }
-    SlotSearch::NotFound
+    None
 }
 
 // One of the components at the places ps bears the name.
@@ -130,9 +108,5 @@ pub fn name_used(r: &[u8], ps: &[usize], name: &[u8]) -> bool
     ensures value { result ≡ any (has_name r.now name.now) ps.now }
     ensures kept { (r.exit.now ≡ r.entry.now) × (ps.exit.now ≡ ps.entry.now) × (name.exit.now ≡ name.entry.now) }
 {
-    let x = slot_among(r, ps, name);
-    match x {
-        SlotSearch::Found(_) => true,
-        SlotSearch::NotFound => false,
-    }
+    slot_among(r, ps, name).is_some()
 }

@@ -20,7 +20,7 @@ use Rattle.edit_decide.specs.Choices.{kind_of_name}
 use Rattle.edit_write.specs.EditWrite.{edit_answer, edit_result_in, add_in, replace_in, remove_in}
 use Rattle.edit_rules.proofs.Written.{length_span, filled_length, filled_before, filled_after, filled_part}
 use Rattle.edit_decide.proofs.Choices.{add_ready, replace_ready, remove_ready}
-use Rattle.cbfs_types.specs.declared.Edited.TheVariants.{Done, Refused}
+use Rattle.std.specs.Prelude.{Ok, Err}
 use Rattle.edit_rules.proofs.Outcomes.{Replaced, Removed}
 use Rattle.edit_rules.proofs.Theorems.{replace_done, remove_done}
 use Rattle.edit_write.proofs.Writing.{region_same, splice_nothing}
@@ -90,17 +90,17 @@ part_bytes i g h j = go (dec_lt j (length (region_bytes i g)))
 
 -- A refused edit changes no byte of the image; one that is done reports a place of the region.
 
-refused_same : (i : List ℕ) (g : Region) (d : Decision) (x : Refusal) → (edit_result_in i g (carried_out (region_bytes i g) d)).answer ≡ Refused x
+refused_same : (i : List ℕ) (g : Region) (d : Decision) (x : Refusal) → (edit_result_in i g (carried_out (region_bytes i g) d)).answer ≡ Err x
     → (edit_result_in i g (carried_out (region_bytes i g) d)).image ≡ i
 unfolding carried_out
 refused_same i g (refuse n p) x e = sym (region_same i g)
 refused_same i g (write y b) x e = let z : ◌≡◌ {A = ℕ} 0 1 = cc in absurd (omega arith)
 
-pub done_place : (i : List ℕ) (g : Region) (o : RegionEdit) (q : ℕ) → (edit_result_in i g o).answer ≡ Done q
+pub done_place : (i : List ℕ) (g : Region) (o : RegionEdit) (q : ℕ) → (edit_result_in i g o).answer ≡ Ok q
     → (p : ℕ) × (g.start + p ≡ q) × (o.answer ≡ edit_done p)
 done_place i g o q e = go o.answer refl e
   where
-    go : (y : RegionEditAnswer) → o.answer ≡ y → edit_answer g.start y ≡ Done q → (p : ℕ) × (g.start + p ≡ q) × (o.answer ≡ edit_done p)
+    go : (y : RegionEditAnswer) → o.answer ≡ y → edit_answer g.start y ≡ Ok q → (p : ℕ) × (g.start + p ≡ q) × (o.answer ≡ edit_done p)
     go (edit_refused n p) h f = let z : ◌≡◌ {A = ℕ} 0 1 = cc in absurd (omega arith)
     go (edit_done p) h f = (p, (cc), h)
 
@@ -127,28 +127,28 @@ module _ (i : List ℕ) (g : Region) where
 
   -- A refused edit changes no byte of the image.
 
-  pub add_same : (name : List ℕ) (kind : ℕ) (content : List ℕ) (x : Refusal) → (add_in i g name kind content).answer ≡ Refused x
+  pub add_same : (name : List ℕ) (kind : ℕ) (content : List ℕ) (x : Refusal) → (add_in i g name kind content).answer ≡ Err x
       → (add_in i g name kind content).image ≡ i
   unfolding add
   add_same name kind content x e = refused_same i g (add_decision component_limit r g.align name kind content) x e
 
-  pub replace_same : (name content : List ℕ) (x : Refusal) → (replace_in i g name content).answer ≡ Refused x → (replace_in i g name content).image ≡ i
+  pub replace_same : (name content : List ℕ) (x : Refusal) → (replace_in i g name content).answer ≡ Err x → (replace_in i g name content).image ≡ i
   unfolding replace
   replace_same name content x e = refused_same i g (replace_decision component_limit r g.align name content) x e
 
-  pub remove_same : (name : List ℕ) (x : Refusal) → (remove_in i g name).answer ≡ Refused x → (remove_in i g name).image ≡ i
+  pub remove_same : (name : List ℕ) (x : Refusal) → (remove_in i g name).answer ≡ Err x → (remove_in i g name).image ≡ i
   unfolding remove
   remove_same name x e = refused_same i g (remove_decision component_limit r g.align name) x e
 
   -- What an edit that is done at q promises of the image's region afterwards; p is the place in the region.
 
-  pub replace_promise : 8 ≤ g.align → AllBytes i → (name content : List ℕ) (q : ℕ) → (replace_in i g name content).answer ≡ Done q
+  pub replace_promise : 8 ≤ g.align → AllBytes i → (name content : List ℕ) (q : ℕ) → (replace_in i g name content).answer ≡ Ok q
       → (p : ℕ) × (g.start + p ≡ q) × Replaced r g.align name content p (region_bytes (replace_in i g name content).image g)
   replace_promise big bs name content q e =
       let (p, h, d) = done_place i g (replace component_limit r g.align name content) q e in
       (p, h, rw (replace_around name content).region (replace_done r g.align big (part_bytes i g bs) name content p d))
 
-  pub remove_promise : 8 ≤ g.align → (name : List ℕ) (q : ℕ) → (remove_in i g name).answer ≡ Done q
+  pub remove_promise : 8 ≤ g.align → (name : List ℕ) (q : ℕ) → (remove_in i g name).answer ≡ Ok q
       → (p : ℕ) × (g.start + p ≡ q) × Removed r g.align name p (region_bytes (remove_in i g name).image g)
   remove_promise big name q e =
       let (p, h, d) = done_place i g (remove component_limit r g.align name) q e in

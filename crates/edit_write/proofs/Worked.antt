@@ -4,10 +4,10 @@ use mathlib.Core.List.{[], ◌∷◌, map}
 use Rattle.bytes_read.specs.Bytes.{splice}
 use Rattle.edit_rules.specs.Edit.{edit_refused, edit_done}
 use Rattle.edit_write.specs.EditWrite.{edit_answer, edit_result_in}
-use Rattle.cbfs_types.specs.declared.Edited.TheVariants.{Done, Refused}
+use Rattle.std.specs.Prelude.{Ok, Err}
 
 answers : map (edit_answer 64) (edit_refused 12 192 ∷ edit_refused 17 192 ∷ edit_done 192 ∷ [])
-    ≡ Refused (record { number = 12; place = 256 }) ∷ Refused (record { number = 17; place = 0 }) ∷ Done 256 ∷ []
+    ≡ Err (record { number = 12; place = 256 }) ∷ Err (record { number = 17; place = 0 }) ∷ Ok 256 ∷ []
 answers = refl
 
 -- The region's bytes stand in the image where they stood.

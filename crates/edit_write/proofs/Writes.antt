@@ -15,8 +15,7 @@ use Rattle.edit_slots.specs.SlotsByPlaces.{slot_from}
 use Rattle.edit_decide.specs.Choices.{kind_of_name, choice}
 use Rattle.edit_write.specs.EditWrite.{EditResult, edit_result_in, add_in, replace_in, remove_in}
 use Rattle.edit_slots.specs.declared.Slot.{Slot}
-use Rattle.edit_decide.specs.declared.Choice.TheVariants.{Write}
-use Rattle.cbfs_types.specs.declared.Edited.TheVariants.{Done}
+use Rattle.std.specs.Prelude.{Ok}
 use Rattle.edit_rules.proofs.Written.{length_span}
 use Rattle.edit_decide.proofs.Choices.{Ready, choice_write, add_ready, replace_ready, remove_ready}
 use Rattle.edit_write.proofs.Writing.{edit_done_lem}
@@ -27,7 +26,7 @@ pub record WritesComponent (i : List ℕ) (g : Region) (name content : List ℕ)
   pub len-fits : length content ≤ 0xFFFFFFFF
   pub fits : z.start + (offset_for name + length content) ≤ z.end
   pub inside : g.start + z.end ≤ length i
-  pub answer : Done (g.start + z.start) ≡ o.answer
+  pub answer : Ok (g.start + z.start) ≡ o.answer
   pub bytes : splice i (g.start + z.start)
       (span_bytes name z.kind content ++ replicate (z.end - z.start - length (span_bytes name z.kind content)) 255) ≡ o.image
 
@@ -35,7 +34,7 @@ pub record WritesComponent (i : List ℕ) (g : Region) (name content : List ℕ)
 pub record ErasesSlot (i : List ℕ) (g : Region) (z : Slot) (o : EditResult) : Type 0 where
   pub order : z.start ≤ z.end
   pub inside : g.start + z.end ≤ length i
-  pub answer : Done (g.start + z.start) ≡ o.answer
+  pub answer : Ok (g.start + z.start) ≡ o.answer
   pub bytes : splice i (g.start + z.start) (replicate (z.end - z.start) 255) ≡ o.image
 
 module _ (i : List ℕ) (g : Region) where
@@ -53,7 +52,7 @@ module _ (i : List ℕ) (g : Region) where
       record { short = w.short; len-fits = w.len-fits; fits = w.fits; inside = omega (arith, w.inside, p.0, p.1); answer = u.0; bytes = rw e u.1 }
 
   pub add_writes : (name : List ℕ) (kind : ℕ) (content : List ℕ) (z : Slot)
-      → choice g.start kind (add_decision component_limit r g.align name kind content) ≡ Write z
+      → choice g.start kind (add_decision component_limit r g.align name kind content) ≡ Ok z
       → WritesComponent i g name content z (add_in i g name kind content)
   unfolding add
   add_writes name kind content z e =
@@ -63,7 +62,7 @@ module _ (i : List ℕ) (g : Region) where
       (puts name kind content (add_decision component_limit r g.align name kind content) x b q y.0 y.1)
 
   pub replace_writes : (name content : List ℕ) (z : Slot)
-      → choice g.start (kind_of_name r g.align name) (replace_decision component_limit r g.align name content) ≡ Write z
+      → choice g.start (kind_of_name r g.align name) (replace_decision component_limit r g.align name content) ≡ Ok z
       → WritesComponent i g name content z (replace_in i g name content)
   unfolding replace
   replace_writes name content z e =
@@ -72,7 +71,7 @@ module _ (i : List ℕ) (g : Region) where
       subst (λ (u : Slot). WritesComponent i g name content u (edit_result_in i g (carried_out r (replace_decision component_limit r g.align name content)))) w
       (puts name (kind_of_name r g.align name) content (replace_decision component_limit r g.align name content) x b q y.0 y.1)
 
-  pub remove_erases : (name : List ℕ) (z : Slot) → choice g.start (kind_of_name r g.align name) (remove_decision component_limit r g.align name) ≡ Write z
+  pub remove_erases : (name : List ℕ) (z : Slot) → choice g.start (kind_of_name r g.align name) (remove_decision component_limit r g.align name) ≡ Ok z
       → ErasesSlot i g z (remove_in i g name)
   unfolding remove
   remove_erases name z e =

@@ -19,8 +19,7 @@ use lib.Dec.{eqb}
 use Rattle.edit_rules.specs.Edit.{header_for, field_bytes, span_stating, span_bytes, field_length, Run, slot_filled, Decision, refuse, write, carried_out}
 use Rattle.edit_decide.specs.Choices.{choice}
 use Rattle.edit_write.specs.EditWrite.{edit_result_in}
-use Rattle.edit_decide.specs.declared.Choice.TheVariants.{Refuse}
-use Rattle.cbfs_types.specs.declared.Edited.TheVariants.{Done, Refused}
+use Rattle.std.specs.Prelude.{Ok, Err}
 use Rattle.edit_decide.proofs.Choices.{choice_refuse}
 
 pub filled_whole : (d : List ℕ) (v : ℕ) {x : List ℕ} → x ≡ written d 0 (replicate (length d) v) → x ≡ replicate (length d) v
@@ -79,18 +78,18 @@ module _ (i : List ℕ) (s n from : ℕ) (ys r : List ℕ) (e : take n (drop s i
 
 -- An edit of the region, put back into the image: a refused one leaves all as it was, and one that is done is a write in the image.
 
-pub edit_refused_lem : (i : List ℕ) (g : Region) (d : Decision) (k : ℕ) (x : Refusal) → choice g.start k d ≡ Refuse x
-    → (Refused x ≡ (edit_result_in i g (carried_out (region_bytes i g) d)).answer) × (i ≡ (edit_result_in i g (carried_out (region_bytes i g) d)).image)
+pub edit_refused_lem : (i : List ℕ) (g : Region) (d : Decision) (k : ℕ) (x : Refusal) → choice g.start k d ≡ Err x
+    → (Err x ≡ (edit_result_in i g (carried_out (region_bytes i g) d)).answer) × (i ≡ (edit_result_in i g (carried_out (region_bytes i g) d)).image)
 unfolding carried_out
 edit_refused_lem i g d k x e = let (n, p, q, w) = choice_refuse g.start k d x e in go n p q w
   where
     go : (n p : ℕ) → d ≡ refuse n p → record { number = n; place = cond (eqb n 12) (g.start + p) 0 } ≡ x
-        → (Refused x ≡ (edit_result_in i g (carried_out (region_bytes i g) d)).answer) × (i ≡ (edit_result_in i g (carried_out (region_bytes i g) d)).image)
+        → (Err x ≡ (edit_result_in i g (carried_out (region_bytes i g) d)).answer) × (i ≡ (edit_result_in i g (carried_out (region_bytes i g) d)).image)
     go n p q w = (rw (q, ← w), rw q (region_same i g))
 
 pub edit_done_lem : (i : List ℕ) (g : Region) (d : Decision) (x : Run) (b : List ℕ) → d ≡ write x b → x.from + length b ≤ x.to → x.from < x.to
     → x.to ≤ length (region_bytes i g)
-    → (Done (g.start + x.from) ≡ (edit_result_in i g (carried_out (region_bytes i g) d)).answer)
+    → (Ok (g.start + x.from) ≡ (edit_result_in i g (carried_out (region_bytes i g) d)).answer)
     × (splice i (g.start + x.from) (b ++ replicate (x.to - x.from - length b) 255) ≡ (edit_result_in i g (carried_out (region_bytes i g) d)).image)
 unfolding carried_out slot_filled
 edit_done_lem i g d x b q h lt k = (

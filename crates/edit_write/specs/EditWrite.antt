@@ -1,24 +1,23 @@
 -- The edits of an image whose region is given by value: the answer with its place counted from the image's start, and the image afterwards.
 -- A region that does not fit the image is empty.
-use Rattle.std.specs.Prelude.{ℕ, ◌+◌, ◌-◌, ◌≤◌, List, ◌++◌, cond, eqb, length, replicate}
+use Rattle.std.specs.Prelude.{ℕ, ◌+◌, ◌-◌, ◌≤◌, List, ◌++◌, length, replicate, Result, Ok, Err}
 use Rattle.bytes_read.specs.Bytes.{splice}
-use Rattle.region.specs.Region.{region_bytes}
+use Rattle.region.specs.Region.{region_bytes, refusal_in}
 use Rattle.cbfs_types.specs.declared.Region.{Region}
 use Rattle.strict_rules.specs.Strict.{component_limit}
 use Rattle.edit_rules.specs.Edit.{offset_for, span_bytes, RegionEditAnswer, edit_refused, edit_done, RegionEdit, add, replace, remove}
 use Rattle.edit_slots.specs.declared.Slot.{Slot}
-use Rattle.cbfs_types.specs.declared.Edited.{Edited}
-use Rattle.cbfs_types.specs.declared.Edited.TheVariants.{Done, Refused}
+use Rattle.cbfs_types.specs.declared.Refusal.{Refusal}
 
--- The outcome of an edit of an image: the answer, and the image afterwards.
+-- The outcome of an edit of an image: the place of the component that was written or removed, or the refusal; and the image afterwards.
 pub record EditResult : Type 0 where
-  pub answer : Edited
+  pub answer : Result ℕ Refusal
   pub image : List ℕ
 
--- The answer of an edit of a region that begins at s. Of the refusals only 12 reports a place.
-abbrev pub edit_answer : ℕ → RegionEditAnswer → Edited
-edit_answer s (edit_refused n p) = Refused (record { number = n; place = cond (eqb n 12) (s + p) 0 })
-edit_answer s (edit_done p) = Done (s + p)
+-- The answer of an edit of a region that begins at s.
+abbrev pub edit_answer : ℕ → RegionEditAnswer → Result ℕ Refusal
+edit_answer s (edit_refused n p) = Err (refusal_in s n p)
+edit_answer s (edit_done p) = Ok (s + p)
 
 -- The image has the outcome's bytes in the place of its region's.
 abbrev pub edit_result_in : List ℕ → Region → RegionEdit → EditResult

@@ -7,8 +7,7 @@ ghost use Rattle.bytes_read.specs.Bytes.{splice};
 ghost use Rattle.edit_rules.specs.Edit.{offset_for};
 ghost use Rattle.edit_write.specs.EditWrite.{slot_bytes, FitsSlot, with_component, add_in, replace_in, remove_in};
 
-use cbfs_types::{ERASED, Edited, HEADER_LEN, Refusal, Region};
-use edit_decide::Choice;
+use cbfs_types::{ERASED, HEADER_LEN, Refusal, Region};
 use edit_slots::Slot;
 
 // Writes a component over the whole slot: its span, with its sum, and 0xFF after it. Each byte is written once.
@@ -57,49 +56,45 @@ fn erase_at(image: &mut [u8], start: usize, z: Slot)
 }
 
 // Adds a component to the region, at the lowest place at which it fits a free run. Refused by 12, 13, 11, then 14, 15, 13, 16, 17.
-pub fn add(image: &mut [u8], region: Region, name: &[u8], kind: u32, content: &[u8]) -> Edited
+pub fn add(
+    image: &mut [u8],
+    region: Region,
+    name: &[u8],
+    kind: u32,
+    content: &[u8],
+) -> Result<usize, Refusal>
     ensures value { result ≡ (add_in image.old region name.now kind content.now).answer }
     ensures bytes { image.new ≡ (add_in image.old region name.now kind content.now).image }
     ensures kept { (name.exit.now ≡ name.entry.now) × (content.exit.now ≡ content.entry.now) }
 {
-    let c = edit_decide::add(image, region, name, kind, content);
-    match c {
-        Choice::Refuse(x) => Edited::Refused(x),
-        Choice::Write(z) => {
-            write_component_at(image, region.start, z, name, content);
-            Edited::Done(region.start + z.start)
-        }
-    }
+    let z = edit_decide::add(image, region, name, kind, content)?;
+    write_component_at(image, region.start, z, name, content);
+    Ok(region.start + z.start)
 }
 
 // Replaces the content of the component that bears the name, which keeps its place and type. Refused by 12, 13, 11, then 10, 16, 17.
-pub fn replace(image: &mut [u8], region: Region, name: &[u8], content: &[u8]) -> Edited
+pub fn replace(
+    image: &mut [u8],
+    region: Region,
+    name: &[u8],
+    content: &[u8],
+) -> Result<usize, Refusal>
     ensures value { result ≡ (replace_in image.old region name.now content.now).answer }
     ensures bytes { image.new ≡ (replace_in image.old region name.now content.now).image }
     ensures kept { (name.exit.now ≡ name.entry.now) × (content.exit.now ≡ content.entry.now) }
 {
-    let c = edit_decide::replace(image, region, name, content);
-    match c {
-        Choice::Refuse(x) => Edited::Refused(x),
-        Choice::Write(z) => {
-            write_component_at(image, region.start, z, name, content);
-            Edited::Done(region.start + z.start)
-        }
-    }
+    let z = edit_decide::replace(image, region, name, content)?;
+    write_component_at(image, region.start, z, name, content);
+    Ok(region.start + z.start)
 }
 
 // Removes the component that bears the name: its whole slot becomes 0xFF. Refused by 12, 13, 11, then 10.
-pub fn remove(image: &mut [u8], region: Region, name: &[u8]) -> Edited
+pub fn remove(image: &mut [u8], region: Region, name: &[u8]) -> Result<usize, Refusal>
     ensures value { result ≡ (remove_in image.old region name.now).answer }
     ensures bytes { image.new ≡ (remove_in image.old region name.now).image }
     ensures kept { name.exit.now ≡ name.entry.now }
 {
-    let c = edit_decide::remove(image, region, name);
-    match c {
-        Choice::Refuse(x) => Edited::Refused(x),
-        Choice::Write(z) => {
-            erase_at(image, region.start, z);
-            Edited::Done(region.start + z.start)
-        }
-    }
+    let z = edit_decide::remove(image, region, name)?;
+    erase_at(image, region.start, z);
+    Ok(region.start + z.start)
 }

@@ -1,12 +1,12 @@
 -- What the tests of an accepted map say, each as a fact.
 use Prim.Native.Nat.{ℕ, zero, suc, ◌+◌, ◌≤◌, ◌<◌}
 use native.Mathlib.Omega.{arith}
-use mathlib.Core.Path.{◌≡◌, refl, ap, ◌∙◌}
-use mathlib.Core.Bool.{Bool, true, false, cond}
+use mathlib.Core.Path.{◌≡◌, refl, sym, ap, ◌∙◌}
+use mathlib.Core.Bool.{true}
 use mathlib.Core.List.{List, [], ◌∷◌}
 use lib.ListN.{length, drop, get_or}
-use lib.Dec.{eqb}
-use borrow.Author.Tests.{leb-true, eqb-true, eqb-false}
+use borrow.Author.Tests.{leb-true}
+use Rattle.std.proofs.Common.{Ok}
 use Rattle.bytes_read.specs.Lists.{any, no_two}
 use Rattle.bytes_read.proofs.Padding.{padded_nth, padded_past}
 use Rattle.region.specs.Refusals.{Test, test, first_failed, length_fits}
@@ -15,56 +15,39 @@ use Rattle.cbfs_types.specs.declared.Area.{Area}
 use Rattle.fmap_area.specs.Names.{area_name_fits}
 use Rattle.fmap_area.specs.Area.{unused_area, same_name, extent_fits, cross, contains_map, area_tests}
 use Rattle.fmap_signature.specs.Signatures.{signatures, first_or}
-use Rattle.fmap.specs.Fmap.{map_place, area_of, nareas, map_end, areas_of, area_limit, signature_tests, map_header_tests, each_area_tests, all_areas_tests, map_tests}
-use Rattle.fmap.specs.Fmap.{fmap_tests, map_of, refused_map, map_answer, fmap_by, fmap}
+use Rattle.fmap.specs.Fmap.{map_place, area_of, nareas, map_end, areas_of}
+use Rattle.fmap.specs.Fmap.{area_limit, signature_tests, map_header_tests, each_area_tests, all_areas_tests, map_tests}
+use Rattle.fmap.specs.Fmap.{fmap_tests, map_of, fmap_by, fmap}
 use Rattle.cbfs_types.specs.declared.FlashMap.{FlashMap}
 use Rattle.fmap.proofs.Counting.{areas_length}
+use Rattle.region.proofs.Answered.{value_given}
 use Rattle.fmap.proofs.Reading.{not_refused}
 
--- What is answered by a number, which is 0 for a map that is read.
-
-pub answered : (n : ℕ) (s : List ℕ) (at : ℕ) → ((map_answer n s at).number ≡ 0 → ⊥) → map_answer n s at ≡ refused_map (map_answer n s at).number
-unfolding map_answer refused_map map_of
-answered n s at h = go (eqb n 0) h
-  where
-    go : (b : Bool) → ((cond b (map_of s at) (refused_map n)).number ≡ 0 → ⊥)
-        → cond b (map_of s at) (refused_map n) ≡ refused_map (cond b (map_of s at) (refused_map n)).number
-    go true z = absurd (z refl)
-    go false z = refl
-
-number_zero : (n : ℕ) (s : List ℕ) (at : ℕ) → (map_answer n s at).number ≡ 0 → (n ≡ 0) × (map_answer n s at ≡ map_of s at)
-unfolding map_answer refused_map
-number_zero n s at h = go (eqb n 0) refl h
-  where
-    go : (b : Bool) → eqb n 0 ≡ b → (cond b (map_of s at) (refused_map n)).number ≡ 0 → (n ≡ 0) × (cond b (map_of s at) (refused_map n) ≡ map_of s at)
-    go true q z = (eqb-true _ _ q, refl)
-    go false q z = absurd (eqb-false _ _ q z)
-
--- What the tests say of an image whose map is read.
-pub record Accepted (i : List ℕ) : Type 0 where
+-- What the tests say of an image whose map m is read.
+pub record Accepted (i : List ℕ) (m : FlashMap) : Type 0 where
   pub one : signatures i ≡ map_place i ∷ []
   pub header : first_failed (map_header_tests i (map_place i) (length i)) ≡ 0
   pub area_tests_lem : first_failed (each_area_tests i (length i) (areas_of i (map_place i))) ≡ 0
   pub all_tests : first_failed (all_areas_tests i (map_place i) (areas_of i (map_place i))) ≡ 0
-  pub answer : fmap i ≡ map_of i (map_place i)
+  pub answer : m ≡ map_of i (map_place i)
 
 pub singleton : (ps : List ℕ) → 1 ≤ length ps → length ps ≤ 1 → ps ≡ first_or 0 ps ∷ []
 singleton [] h k = absurd (omega arith)
 singleton (p ∷ []) h k = refl
 singleton (p ∷ q ∷ ps) h k = absurd (omega arith)
 
-pub accepted : (i : List ℕ) → (fmap i).number ≡ 0 → Accepted i
+pub accepted : (i : List ℕ) (m : FlashMap) → fmap i ≡ Ok m → Accepted i m
 unfolding fmap fmap_by fmap_tests signature_tests
-accepted i h = record {
+accepted i m h = record {
   one = singleton (signatures i) (leb-true _ _ (p 1)) (leb-true _ _ (p 2));
   header = parts.0;
   area_tests_lem = parts.1;
   all_tests = parts.2;
-  answer = zero.1;
+  answer = sym zero.1;
 }
   where
-    zero : (first_failed (fmap_tests i (signatures i)) ≡ 0) × (fmap_by i (signatures i) ≡ map_of i (map_place i))
-    zero = number_zero (first_failed (fmap_tests i (signatures i))) i (map_place i) h
+    zero : (first_failed (fmap_tests i (signatures i)) ≡ 0) × (map_of i (map_place i) ≡ m)
+    zero = value_given (map_of i (map_place i)) (first_failed (fmap_tests i (signatures i))) h
 
     before : List Test
     before = test 1 (length_fits i) ∷ signature_tests (signatures i)
@@ -93,26 +76,26 @@ areas i = areas_of i (map_place i)
 abbrev pub nth : List ℕ → ℕ → Area
 nth i k = get_or (areas i) k unused_area
 
-module _ (i : List ℕ) (ok : (fmap i).number ≡ 0) where
-  pub count_is : (fmap i).count ≡ nareas i (map_place i)
+module _ (i : List ℕ) (m : FlashMap) (ok : fmap i ≡ Ok m) where
+  pub count_is : m.count ≡ nareas i (map_place i)
   unfolding map_of
-  count_is = ap (λ (m : FlashMap). m.count) (accepted i ok).answer
+  count_is = ap (λ (x : FlashMap). x.count) (accepted i m ok).answer
 
-  pub long : (k : ℕ) → k < (fmap i).count → k < length (areas i)
+  pub long : (k : ℕ) → k < m.count → k < length (areas i)
   long k h = omega (arith, count_is, areas_length i (nareas i (map_place i)) (map_place i + 56))
 
-  pub area_is : (k : ℕ) → k < (fmap i).count → area_of (fmap i) k ≡ nth i k
+  pub area_is : (k : ℕ) → k < m.count → area_of m k ≡ nth i k
   unfolding map_of
-  area_is k h = ap (λ (m : FlashMap). area_of m k) (accepted i ok).answer ∙ padded_nth area_limit unused_area (areas i) k (long k h)
+  area_is k h = ap (λ (x : FlashMap). area_of x k) (accepted i m ok).answer ∙ padded_nth area_limit unused_area (areas i) k (long k h)
 
-  pub area_past : (k : ℕ) → (fmap i).count ≤ k → area_of (fmap i) k ≡ unused_area
+  pub area_past : (k : ℕ) → m.count ≤ k → area_of m k ≡ unused_area
   unfolding map_of
   area_past k h =
-      ap (λ (m : FlashMap). area_of m k) (accepted i ok).answer
+      ap (λ (x : FlashMap). area_of x k) (accepted i m ok).answer
       ∙ padded_past area_limit unused_area (areas i) k (omega (arith, count_is, areas_length i (nareas i (map_place i)) (map_place i + 56)))
 
-  pub each : (k : ℕ) → k < (fmap i).count → (area_name_fits (drop (nth i k).name i) ≡ true) × (extent_fits (length i) (nth i k) ≡ true)
-  each k h = each_area i (length i) (areas i) (accepted i ok).area_tests_lem k (long k h)
+  pub each : (k : ℕ) → k < m.count → (area_name_fits (drop (nth i k).name i) ≡ true) × (extent_fits (length i) (nth i k) ≡ true)
+  each k h = each_area i (length i) (areas i) (accepted i m ok).area_tests_lem k (long k h)
 
   pub all_tests_pass : (no_two (same_name i) (areas i) ≡ true) × (no_two cross (areas i) ≡ true)
       × (any (contains_map i (map_place i) (map_end i (map_place i))) (areas i) ≡ true)
@@ -120,4 +103,4 @@ module _ (i : List ℕ) (ok : (fmap i).number ≡ 0) where
   all_tests_pass = (p 0, p 1, p 2)
     where
       p : (k : ℕ) → (get_or (all_areas_tests i (map_place i) (areas i)) k (test 1 true)).passed ≡ true
-      p = all_passed (all_areas_tests i (map_place i) (areas i)) refl (accepted i ok).all_tests
+      p = all_passed (all_areas_tests i (map_place i) (areas i)) refl (accepted i m ok).all_tests

@@ -10,14 +10,18 @@ use lib.ListN.{length, take, drop, get_or, replicate, length-append, length-repl
 use lib.Seq.{get_or-append-add}
 use lib.Dec.{eqb}
 use borrow.Author.Tests.{leb-true, eqb-true, eqb-false}
+use Rattle.std.proofs.Common.{Ok, Err}
 use Rattle.bytes_read.specs.Lists.{any, no_two, padded}
 use Rattle.bytes_read.proofs.Tested.{any_some, any_false, nth_mem, two_none}
 use Rattle.region.specs.Refusals.{Test, test, first_failed, length_fits}
+use Rattle.region.specs.Region.{refusal_by, unless_refused}
 use Rattle.region.specs.Table.{Row, FirstRowMet}
 use Rattle.region.proofs.Orders.{numbered, all_passed, first_here, first_later}
 use Rattle.region.proofs.Tables.{Fails, Renders, no_more, both_render, exactly, later_row, other_fails, said, last_fails, either, one_fails, given_exactly}
 use Rattle.region.proofs.Tables.{given_here, given_later, nonzero}
 use Rattle.cbfs_types.specs.declared.Area.{Area}
+use Rattle.cbfs_types.specs.declared.FlashMap.{FlashMap}
+use Rattle.cbfs_types.specs.declared.Refusal.{Refusal}
 use Rattle.fmap_area.specs.Area.{area_at, unused_area, same_name, cross, contains_map, area_tests}
 use Rattle.fmap_area.specs.Table.{AreaNamed, area_rows, SameName, Cross}
 use Rattle.fmap_area.proofs.Exactly.{fit_named, area_renders, same_name_lem, crosses, contains-map}
@@ -25,8 +29,7 @@ use Rattle.fmap_signature.specs.Signatures.{signatures}
 use Rattle.fmap_signature.specs.Table.{SignatureAt}
 use Rattle.fmap_signature.proofs.Exactly.{listed, none_exactly, several_exactly}
 use Rattle.fmap.specs.Fmap.{areas_at, areas_of, count_fits, signature_tests, map_header_tests, each_area_tests, all_areas_tests, map_tests, fmap_tests, map_of}
-use Rattle.fmap.specs.Fmap.{refused_map}
-use Rattle.fmap.specs.Fmap.{map_answer, fmap_by, fmap, map_place}
+use Rattle.fmap.specs.Fmap.{fmap_by, fmap, map_place, refusal_number}
 use Rattle.fmap.specs.Table.{MapPlace, L, size, nareas, area, each_area_rows, TwoAreas, MapContained, all_areas_rows, map_rows, ReadsMap}
 use Rattle.fmap.proofs.Counting.{areas_length}
 use Rattle.fmap.proofs.Reading.{each_area_numbered, header_passed}
@@ -230,20 +233,19 @@ module _ (i : List ℕ) (p : ℕ) where
       one e = singleton (signatures i) (leb-true _ _ (all_passed first refl e 1)) (leb-true _ _ (all_passed first refl e 2))
 
 -- The number of an answer.
-answer_number : (n : ℕ) (s : List ℕ) (at : ℕ) → (map_answer n s at).number ≡ n
-unfolding map_answer map_of refused_map
-answer_number n s at = go (eqb n 0) refl
+answer_number : (n : ℕ) (m : FlashMap) → refusal_number (unless_refused n m) ≡ n
+answer_number n m = go (eqb n 0) refl
   where
-    go : (b : Bool) → eqb n 0 ≡ b → (cond b (map_of s at) (refused_map n)).number ≡ n
+    go : (b : Bool) → eqb n 0 ≡ b → refusal_number (cond b (Ok m) (Err (refusal_by n))) ≡ n
     go true q = sym (eqb-true _ _ q)
     go false q = refl
 
 -- The number of the refusal, or 0 where the map is read: exactly as document 01's table has it.
-pub fmap_exactly : (i : List ℕ) (p : ℕ) → MapPlace i p → (n : ℕ) → ((fmap i).number ≡ n) ↔ FirstRowMet (map_rows i p) n
+pub fmap_exactly : (i : List ℕ) (p : ℕ) → MapPlace i p → (n : ℕ) → (refusal_number (fmap i) ≡ n) ↔ FirstRowMet (map_rows i p) n
 unfolding fmap fmap_by
 fmap_exactly i p a n =
-    let e = answer_number (first_failed (fmap_tests i (signatures i))) i (map_place i) in
-    given_exactly (map_rows i p) (fmap i).number (subst (FirstRowMet (map_rows i p)) (sym e) (given i p a)) n
+    let e = answer_number (first_failed (fmap_tests i (signatures i))) (map_of i (map_place i)) in
+    given_exactly (map_rows i p) (refusal_number (fmap i)) (subst (FirstRowMet (map_rows i p)) (sym e) (given i p a)) n
 
 -- Every image has such a place.
 pub some_place : (i : List ℕ) → (p : ℕ) × MapPlace i p
@@ -258,7 +260,6 @@ some_place i = go (signatures i) refl
 of_map : (i : List ℕ) (p : ℕ) → nareas i p ≤ 256 → ReadsMap i p (map_of i p)
 unfolding map_of padded area_at
 of_map i p h = record {
-  no_place = refl;
   minor_read = refl;
   base_read = refl;
   count_read = refl;
@@ -279,22 +280,13 @@ of_map i p h = record {
     past d k j e l = rw e (get_or-append-add xs (replicate (256 - length xs) unused_area) j d ∙ get_or-replicate (256 - length xs) j unused_area d l)
 
 -- A map that is read has what its bytes say.
-pub fmap_read : (i : List ℕ) (p : ℕ) → (fmap i).number ≡ 0 → SignatureAt i p → ReadsMap i p (fmap i)
-fmap_read i p ok a =
-    let x = accepted i ok in
+pub fmap_read : (i : List ℕ) (p : ℕ) (m : FlashMap) → fmap i ≡ Ok m → SignatureAt i p → ReadsMap i p m
+fmap_read i p m ok a =
+    let x = accepted i m ok in
     let h = header_passed i (map_place i) (length i) x.header in
-    subst (λ (q : ℕ). ReadsMap i q (fmap i)) (only i p (inl a) x.one)
+    subst (λ (q : ℕ). ReadsMap i q m) (only i p (inl a) x.one)
     (subst (ReadsMap i (map_place i)) (sym x.answer) (of_map i (map_place i) h.no_more))
 
--- A refusal has its number, and is zero otherwise.
-pub fmap_refused : (i : List ℕ) → ((fmap i).number ≡ 0 → ⊥)
-    → fmap i ≡ record {
-      number = (fmap i).number;
-      place = 0;
-      minor = 0;
-      base = 0;
-      count = 0;
-      areas = replicate 256 (record { offset = 0; size = 0; flags = 0; name = 0 });
-    }
-unfolding refused_map padded
-fmap_refused i h = refusal_zero i h
+-- A refusal has its number, which is not 0, and place 0.
+pub fmap_refused : (i : List ℕ) (r : Refusal) → fmap i ≡ Err r → (r.number ≡ 0 → ⊥) × (r.place ≡ 0)
+fmap_refused i r h = let (z, e) = refusal_zero i r h in (z, ap (λ (x : Refusal). x.place) e)

@@ -1,4 +1,6 @@
 pub mod Counting
+pub mod Taking
+pub mod Refusing
 pub mod Reading
 pub mod Accepting
 pub mod Theorems

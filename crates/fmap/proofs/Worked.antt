@@ -5,18 +5,18 @@ use mathlib.Core.Bool.{Bool, true}
 use mathlib.Core.List.{List, [], ◌∷◌, ◌++◌, map}
 use lib.ListN.{length, take, replicate}
 use lib.Dec.{eqb}
+use Rattle.std.proofs.Common.{Ok, Err}
 use Rattle.bytes_read.specs.Number.{le, le_bytes}
 use Rattle.bytes_read.specs.Bytes.{eq_bytes}
 use Rattle.bytes_read.specs.Tests.{all_true}
-use Rattle.bytes_read.specs.Lists.{any, no_two, padded}
+use Rattle.bytes_read.specs.Lists.{no_two, padded}
 use Rattle.region.specs.Refusals.{length_fits}
 use Rattle.bytes_read.specs.Printable.{printable_prefix}
 use Rattle.fmap_area.specs.Names.{area_name_tests, area_name_fits, area_name_of}
 use Rattle.fmap_area.specs.Area.{area_at, area_has_name, extent_fits, disjoint, contains, cross, fmap_name, fmap_area_tests, contains_map, area_tests}
 use Rattle.fmap_signature.specs.Signatures.{signature, has_signature, signature_at, place_count_from, signatures_at, signatures_from}
-use Rattle.fmap.specs.Fmap.{areas_at, count_fits, signature_tests, map_header_tests, each_area_tests, all_areas_tests, map_tests, fmap_tests, map_of, refused_map}
-use Rattle.fmap.specs.Fmap.{map_answer}
-use Rattle.fmap.specs.Fmap.{map_at, fmap_by, fmap}
+use Rattle.fmap.specs.Fmap.{areas_at, count_fits, signature_tests, map_header_tests, each_area_tests, all_areas_tests, map_tests, fmap_tests, map_of}
+use Rattle.fmap.specs.Fmap.{map_at, fmap_by, fmap, refusal_number}
 
 -- Of 001's two numbers for the signature, this is the little-endian one.
 signature_number_lem : le 8 signature 0 ≡ 0x5F5F50414D465F5F
@@ -150,27 +150,25 @@ cases =
 
 -- One name for all definitions that the values go through.
 unfoldable opened : ℕ
-unfolding le_bytes le eq_bytes any no_two padded signature has_signature signature_at place_count_from signatures_at signatures_from printable_prefix area_name_tests
+unfolding le_bytes le eq_bytes no_two padded signature has_signature signature_at place_count_from signatures_at signatures_from printable_prefix area_name_tests
     area_name_fits area_name_of area_at areas_at length_fits count_fits area_has_name extent_fits disjoint contains cross fmap_name fmap_area_tests contains_map signature_tests
-    map_header_tests area_tests each_area_tests all_areas_tests map_tests fmap_tests map_of refused_map map_answer map_at fmap_by fmap
+    map_header_tests area_tests each_area_tests all_areas_tests map_tests fmap_tests map_of map_at fmap_by fmap
 opened = 0
 
 abbrev agrees : ℕ × List ℕ → Bool
-agrees (n, i) = eqb (fmap i).number n
+agrees (n, i) = eqb (refusal_number (fmap i)) n
 
 worked : all_true (map agrees cases) ≡ true
 unfolding opened
 worked = refl
 
 -- 257 areas, and 256 of them. Their names are unfit: 32 before 33. The map at byte 0 is judged by itself: the search for signatures would take long here.
-many_areas : map (λ (n : ℕ). (map_at (image (56 + 42 * n) (header (56 + 42 * n) n)) 0 (56 + 42 * n)).number) (257 ∷ 256 ∷ []) ≡ 32 ∷ 33 ∷ []
+many_areas : map (λ (n : ℕ). refusal_number (map_at (image (56 + 42 * n) (header (56 + 42 * n) n)) 0 (56 + 42 * n))) (257 ∷ 256 ∷ []) ≡ 32 ∷ 33 ∷ []
 unfolding opened
 many_areas = refl
 
 -- What is read of a map at byte 64: minor, base, count and the areas in map order, with the places of their names.
-read : fmap (image 256 (after 64 (header 256 2 ++ area 64 140 fmap_name_lem 0x0201 ++ area 0xCC 0x34 (a's 2) 0xFFFE))) ≡ record {
-  number = 0;
-  place = 0;
+read : fmap (image 256 (after 64 (header 256 2 ++ area 64 140 fmap_name_lem 0x0201 ++ area 0xCC 0x34 (a's 2) 0xFFFE))) ≡ Ok (record {
   minor = 7;
   base = 0x1122334455667788;
   count = 2;
@@ -178,18 +176,11 @@ read : fmap (image 256 (after 64 (header 256 2 ++ area 64 140 fmap_name_lem 0x02
       record { offset = 64; size = 140; flags = 0x0201; name = 128 }
       ∷ record { offset = 0xCC; size = 0x34; flags = 0xFFFE; name = 170 }
       ∷ replicate 254 (record { offset = 0; size = 0; flags = 0; name = 0 });
-}
+})
 unfolding opened
 read = refl
 
--- A refusal has its number, and is zero otherwise.
-refusal : fmap (image 98 (header 98 0)) ≡ record {
-  number = 32;
-  place = 0;
-  minor = 0;
-  base = 0;
-  count = 0;
-  areas = replicate 256 (record { offset = 0; size = 0; flags = 0; name = 0 });
-}
+-- A refusal has its number, and reports place 0.
+refusal : fmap (image 98 (header 98 0)) ≡ Err (record { number = 32; place = 0 })
 unfolding opened
 refusal = refl

@@ -1,14 +1,16 @@
 -- The flash map of an image (document 01, "Flash map", and refusals 1 and 27 to 37): little-endian, packed.
 -- The map that stands at a place `at` of the bytes s is judged against a length l.
-use Rattle.std.specs.Prelude.{ℕ, zero, suc, ◌+◌, ◌*◌, List, [], ◌∷◌, ◌++◌, Bool, cond, length, get_or, leb, eqb}
+use Rattle.std.specs.Prelude.{ℕ, zero, suc, ◌+◌, ◌*◌, List, [], ◌∷◌, ◌++◌, Bool, length, get_or, leb, eqb, Result, Ok, Err}
 use Rattle.bytes_read.specs.Number.{le}
 use Rattle.bytes_read.specs.Tests.{all_true}
 use Rattle.bytes_read.specs.Lists.{any, no_two, padded}
 use Rattle.region.specs.Refusals.{Test, test, first_failed, length_fits}
+use Rattle.region.specs.Region.{unless_refused}
 use Rattle.cbfs_types.specs.declared.Area.{Area}
 use Rattle.fmap_area.specs.Area.{area_at, unused_area, same_name, cross, contains_map, area_tests}
 use Rattle.fmap_signature.specs.Signatures.{signatures, first_or}
 use Rattle.cbfs_types.specs.declared.FlashMap.{FlashMap}
+use Rattle.cbfs_types.specs.declared.Refusal.{Refusal}
 
 -- The header, 56 bytes: signature, major, minor, base, size, name, nareas. The header's own name is not read.
 
@@ -85,34 +87,19 @@ unfoldable pub fmap_tests : List ℕ → List ℕ → List Test
 fmap_tests i ps = test 1 (length_fits i) ∷ (signature_tests ps ++ map_tests i (first_or 0 ps) (length i))
 
 -- What is answered: records of areas, 256 of them, unused ones zero.
-
 unfoldable pub map_of : List ℕ → ℕ → FlashMap
-map_of s at = record {
-  number = 0;
-  place = 0;
-  minor = minor s at;
-  base = base s at;
-  count = nareas s at;
-  areas = padded area_limit unused_area (areas_of s at);
-}
+map_of s at = record { minor = minor s at; base = base s at; count = nareas s at; areas = padded area_limit unused_area (areas_of s at) }
 
-unfoldable pub refused_map : ℕ → FlashMap
-refused_map n = record { number = n; place = 0; minor = 0; base = 0; count = 0; areas = padded area_limit unused_area [] }
+-- The map at a place, judged against the length l, or the refusal.
+unfoldable pub map_at : List ℕ → ℕ → ℕ → Result FlashMap Refusal
+map_at s at l = unless_refused (first_failed (map_tests s at l)) (map_of s at)
 
--- The map at `at`, or the refusal by the number n.
-unfoldable pub map_answer : ℕ → List ℕ → ℕ → FlashMap
-map_answer n s at = cond (eqb n 0) (map_of s at) (refused_map n)
-
--- The map at a place, judged against the length l.
-unfoldable pub map_at : List ℕ → ℕ → ℕ → FlashMap
-map_at s at l = map_answer (first_failed (map_tests s at l)) s at
-
--- The flash map of an image, of which ps are the signatures.
-unfoldable pub fmap_by : List ℕ → List ℕ → FlashMap
-fmap_by i ps = map_answer (first_failed (fmap_tests i ps)) i (first_or 0 ps)
+-- The flash map of an image, of which ps are the signatures, or the refusal.
+unfoldable pub fmap_by : List ℕ → List ℕ → Result FlashMap Refusal
+fmap_by i ps = unless_refused (first_failed (fmap_tests i ps)) (map_of i (first_or 0 ps))
 
 -- The flash map of an image, or the refusal.
-unfoldable pub fmap : List ℕ → FlashMap
+unfoldable pub fmap : List ℕ → Result FlashMap Refusal
 fmap i = fmap_by i (signatures i)
 
 -- For what is promised.
@@ -124,3 +111,8 @@ map_place i = first_or 0 (signatures i)
 -- The k-th area of a map, counted from 0.
 abbrev pub area_of : FlashMap → ℕ → Area
 area_of m k = get_or m.areas k unused_area
+
+-- The number of the refusal, or 0 where a map is read.
+abbrev pub refusal_number : Result FlashMap Refusal → ℕ
+refusal_number (Ok m) = 0
+refusal_number (Err r) = r.number

@@ -72,7 +72,6 @@ module _ (i : List ℕ) where
 
     -- "The reader gives minor, base, a count and 256 records (offset, size, flags, place of the name) in map order, unused ones zero."
     pub record ReadsMap (m : FlashMap) : Type 0 where
-      pub no_place : m.place ≡ 0
       pub minor_read : m.minor ≡ minor
       pub base_read : m.base ≡ base
       pub count_read : m.count ≡ nareas

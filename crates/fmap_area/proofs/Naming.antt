@@ -66,6 +66,9 @@ name_good f n e l m z = by (dec_le 1 n)
     by (yes h) = rw (q, le-leb 1 n h, le-leb n 31 l, eq-eqb _ _ (within f n m ∙ z)) (sym q)
     by (no g) = omega (arith, bad f 0 (lt-leb 1 (length (printable_prefix f)) (omega (arith, q))))
 
+-- The four ways that a count of bytes ends.
+pub ruleset name_counted = (name_long, name_cut, name_without_zero, name_good)
+
 -- A name is fit exactly if it is not empty.
 
 pub name_unfit : (f : List ℕ) → length (area_name_of f) ≡ 0 → area_name_fits f ≡ false
@@ -83,6 +86,8 @@ name_fit f h = go (area_name_fits f) refl h
     go : (b : Bool) → area_name_fits f ≡ b → (length (cond b (printable_prefix f) []) ≡ 0 → ⊥) → b ≡ true
     go false q z = absurd (z refl)
     go true q z = refl
+
+pub ruleset name_fitness = (name_fit, name_unfit)
 
 -- The name is a part of the bytes.
 pub name_part : (s : List ℕ) (p n : ℕ) → n ≡ length (area_name_at s p) → part_of s p n ≡ area_name_at s p

@@ -1,8 +1,8 @@
 -- The signatures of flash maps in a run of bytes s (document 01, "Flash map"). They stand at multiples of 64.
-use Rattle.std.specs.Prelude.{ℕ, zero, suc, ◌+◌, ◌-◌, ◌/◌, List, [], ◌∷◌, Bool, cond, length, take, drop}
+use Rattle.std.specs.Prelude.{ℕ, zero, suc, ◌+◌, ◌-◌, ◌/◌, List, [], ◌∷◌, Bool, cond, length, take, drop, Result, Ok, Err}
 use Rattle.bytes_read.specs.Bytes.{eq_bytes}
-use Rattle.cbfs_types.specs.declared.SignatureSearch.{SignatureSearch}
-use Rattle.cbfs_types.specs.declared.SignatureSearch.TheVariants.{NotFound, Found, Several}
+use Rattle.region.specs.Region.{refusal_by}
+use Rattle.cbfs_types.specs.declared.Refusal.{Refusal}
 
 -- __FMAP__
 unfoldable pub signature : List ℕ
@@ -37,8 +37,8 @@ abbrev pub first_or : ℕ → List ℕ → ℕ
 first_or d [] = d
 first_or d (p ∷ ps) = p
 
--- What is found: no signature, one, or several.
-abbrev pub signature_answer : List ℕ → SignatureSearch
-signature_answer [] = NotFound
-signature_answer (p ∷ []) = Found p
-signature_answer (p ∷ q ∷ ps) = Several
+-- What is answered: the place of the only signature, or a refusal, 27 for none and 28 for several.
+abbrev pub signature_answer : List ℕ → Result ℕ Refusal
+signature_answer [] = Err (refusal_by 27)
+signature_answer (p ∷ []) = Ok p
+signature_answer (p ∷ q ∷ ps) = Err (refusal_by 28)

@@ -1,4 +1,5 @@
 -- Demand 3 for a whole image, from the same for a region's bytes.
+use Rattle.std.specs.Prelude.{Ok}
 use Prim.Native.Nat.{ℕ, ◌+◌, ◌-◌, ◌≤◌, ◌<◌}
 use native.Mathlib.Omega.{arith}
 use mathlib.Core.Path.{◌≡◌, refl, sym, ap, ◌∙◌}
@@ -18,9 +19,7 @@ use Rattle.strict_rules.proofs.Bearing.{lone}
 use Rattle.region.specs.Region.{region_bytes}
 use Rattle.cbfs_types.specs.declared.Region.{Region}
 use Rattle.master_header.specs.Master.{master}
-use Rattle.cbfs_types.specs.declared.Master.TheVariants.{Read}
 use Rattle.master_header.proofs.Facts.{known, same_region}
-use Rattle.cbfs_types.specs.declared.Found.TheVariants.{At}
 use Rattle.image_find.specs.ImageFind.{guarded_find}
 use Rattle.image_claims.specs.Corruption.{placed, guarded_entries, LookupGives, LookupRefuses, in_image_slots, listed_from_image_slots, CorruptedImage}
 use Rattle.image_claims.specs.Corruption.{named_from_slots}
@@ -30,7 +29,7 @@ use Rattle.image_claims.proofs.Images.{refuses_there}
 use Rattle.image_claims.proofs.Theorems.{guarded_listing_is_steps, listed_parts}
 
 -- An image that the strict check accepts, its region, any set of its slots, and the image with these slots corrupted.
-module _ (i : List ℕ) (g : Region) (read : master i ≡ Read g) (acc : Accepted (region_bytes i g) g.align) (set : ℕ → Bool) (i' : List ℕ)
+module _ (i : List ℕ) (g : Region) (read : master i ≡ Ok g) (acc : Accepted (region_bytes i g) g.align) (set : ℕ → Bool) (i' : List ℕ)
     (sp : CorruptedImage set i g i') where
   -- The set by places from the region's start.
   abbrev inner : ℕ → Bool
@@ -50,7 +49,7 @@ module _ (i : List ℕ) (g : Region) (read : master i ≡ Read g) (acc : Accepte
   outside true c = refl
   outside false c = refl
 
-  read' : master i' ≡ Read g
+  read' : master i' ≡ Ok g
   read' = same_region i i' g read sp.same_length (λ j h. sp.other_bytes j (rw (le-ltb j g.end h) (outside (leb g.start j) _)))
 
   -- An entry of either listing stands in the region, and in a slot of the set as its place in the region does.
@@ -89,7 +88,7 @@ module _ (i : List ℕ) (g : Region) (read : master i ≡ Read g) (acc : Accepte
       → LookupGives true i' (placed g t) × (guarded_find i' t.component.name ≡ guarded_find i t.component.name)
   as_before t m f n =
       let l : guarded_lookup (region_bytes i' g) g.align t.component.name ≡ lookup_gives t = rw n at (looked t m f) in
-      (gives_there i' g read' true t l, rw (read, read', l, alone t m) (ap At (same_taken i g read i' sp.same_length t)))
+      (gives_there i' g read' true t l, rw (read, read', l, alone t m) (ap Ok (same_taken i g read i' sp.same_length t)))
 
   -- Demand 3, whole.
   pub corruption_contained : CorruptionContainedInImage set i g i'

@@ -1,4 +1,5 @@
 -- Demand 2 on edits for a whole image, from the same for a region's bytes.
+use Rattle.std.specs.Prelude.{Ok}
 use Prim.Native.Nat.{ℕ, ◌+◌, ◌-◌, ◌^◌, ◌≤◌, ◌<◌}
 use native.Mathlib.Omega.{arith}
 use native.Mathlib.Decide.{dec_lt}
@@ -15,7 +16,6 @@ use Rattle.walk_lookup.specs.Lookup.{LookupResult, lookup_refused, lookup_gives,
 use Rattle.region.specs.Region.{region_bytes}
 use Rattle.cbfs_types.specs.declared.Region.{Region}
 use Rattle.master_header.specs.Master.{master}
-use Rattle.cbfs_types.specs.declared.Master.TheVariants.{Read}
 use Rattle.master_header.proofs.Facts.{Known, known, same_region}
 use Rattle.strict_rules.specs.Strict.{component_limit, Accepted}
 use Rattle.bytes_read.proofs.Tested.{both_true}
@@ -25,10 +25,8 @@ use Rattle.edit_rules.proofs.Outcomes.{Finds, Others, Added, Replaced, Removed}
 use Rattle.edit_rules.proofs.Theorems.{add_accepted, add_done}
 use Rattle.edit_rules.proofs.Exactly.{fits_run_exactly, Undone, add_undone}
 use Rattle.edit_write.specs.EditWrite.{add_in, replace_in, remove_in}
-use Rattle.cbfs_types.specs.declared.Edited.TheVariants.{Done}
 use Rattle.edit_write.proofs.Around.{Around, add_around, replace_around, remove_around, done_place, replace_promise, remove_promise}
 use Rattle.region_read.specs.RegionRead.{taken_in, find_answer_in}
-use Rattle.cbfs_types.specs.declared.Found.TheVariants.{At}
 use Rattle.image_find.specs.ImageFind.{image_find, image_content}
 use Rattle.image_edit.specs.ImageEdit.{image_remove}
 use Rattle.image_claims.specs.Corruption.{AcceptedImage, placed, entries, guarded_entries, LookupGives, LookupRefuses, in_image_slots}
@@ -85,11 +83,11 @@ same_within f h e [] i q = refl
 same_within f h e (t ∷ ts) i q = rw (q t.place, same_within f h e ts i q)
 
 -- An image i that is read, its region g, and an image i' with y for its region's bytes.
-module _ (i : List ℕ) (g : Region) (read : master i ≡ Read g) (y i' : List ℕ) (ar : Around i g y i') where
+module _ (i : List ℕ) (g : Region) (read : master i ≡ Ok g) (y i' : List ℕ) (ar : Around i g y i') where
   facts : Known i g
   facts = known i g read
 
-  read' : master i' ≡ Read g
+  read' : master i' ≡ Ok g
   read' = same_region i i' g read ar.same_length ar.after
 
   -- What stands in the region's bytes stands in the image.
@@ -109,7 +107,7 @@ module _ (i : List ℕ) (g : Region) (read : master i ≡ Read g) (y i' : List �
     where
       go : (o : LookupResult) → find_answer_in i' g o ≡ find_answer_in i g o
       go (lookup_refused m) = refl
-      go (lookup_gives t) = ap At (same_taken i g read i' ar.same_length t)
+      go (lookup_gives t) = ap Ok (same_taken i g read i' ar.same_length t)
 
   others : (name : List ℕ) → Others (region_bytes i g) g.align name (region_bytes i' g) → (w : Bool) (n : List ℕ) → (n ≡ name → ⊥)
       → (image_find w i' n ≡ image_find w i n) × (image_content w i' n ≡ image_content w i n)
@@ -193,7 +191,7 @@ module _ (i : List ℕ) (g : Region) (read : master i ≡ Read g) (y i' : List �
       leb-true g.start j (both_true (leb g.start j) (ltb j g.end) b.0).0
 
 -- The edits of an image that is read, each at the place g .start + p.
-module _ (i : List ℕ) (g : Region) (read : master i ≡ Read g) where
+module _ (i : List ℕ) (g : Region) (read : master i ≡ Ok g) where
   abbrev r : List ℕ
   r = region_bytes i g
 
@@ -210,10 +208,10 @@ module _ (i : List ℕ) (g : Region) (read : master i ≡ Read g) where
 
     -- What remove takes away again.
     undone : (p : ℕ) → Undone r g.align p name (add component_limit r g.align name kind content).bytes
-        → ((image_remove i₁ name).answer ≡ Done (g.start + p)) × ((w : Bool) → entries w (image_remove i₁ name).image g ≡ entries w i g)
+        → ((image_remove i₁ name).answer ≡ Ok (g.start + p)) × ((w : Bool) → entries w (image_remove i₁ name).image g ≡ entries w i g)
     undone p u = (rw (back, ar₁.region, u.done_again), λ w. rw back (same w))
       where
-        back : master i₁ ≡ Read g
+        back : master i₁ ≡ Ok g
         back = read' i g read (add component_limit r g.align name kind content).bytes i₁ ar₁
 
         region : region_bytes (remove_in i₁ g name).image g ≡ (remove component_limit (add component_limit r g.align name kind content).bytes
@@ -224,7 +222,7 @@ module _ (i : List ℕ) (g : Region) (read : master i ≡ Read g) where
         same true = rw region (ap (map (placed g)) u.guardedly)
         same false = rw region (ap (map (placed g)) u.plainly)
 
-    pub add_there : kind < 256 ^ 4 → (q : ℕ) → (add_in i g name kind content).answer ≡ Done q → AcceptedImage i g × AddDone i g name kind content q i₁
+    pub add_there : kind < 256 ^ 4 → (q : ℕ) → (add_in i g name kind content).answer ≡ Ok q → AcceptedImage i g × AddDone i g name kind content q i₁
     add_there typed q e =
         let (p, h, d) = done_place i g (add component_limit r g.align name kind content) q e in
         let acc = add_accepted r g.align name kind content p d in (
@@ -267,7 +265,7 @@ module _ (i : List ℕ) (g : Region) (read : master i ≡ Read g) where
             listed false = ap (map (placed g)) a.plainly ∙ insert_placed g (new_entry p name kind content) (plain_listing r g.align)
 
   -- Replace.
-  pub replace_there : AllBytes i → (name content : List ℕ) (q : ℕ) → (replace_in i g name content).answer ≡ Done q
+  pub replace_there : AllBytes i → (name content : List ℕ) (q : ℕ) → (replace_in i g name content).answer ≡ Ok q
       → ReplaceDone i g name content q (replace_in i g name content).image
   replace_there bs name content q e = let (p, h, d) = replace_promise i g big bs name content q e in
       subst (λ (m : ℕ). ReplaceDone i g name content m i₂) h (go p d)
@@ -296,7 +294,7 @@ module _ (i : List ℕ) (g : Region) (read : master i ≡ Read g) where
           listed false = ap (map (placed g)) d.plainly ∙ replace-placed g (new_entry p name d.old.component.kind content) (plain_listing r g.align)
 
   -- Remove.
-  pub remove_there : (name : List ℕ) (q : ℕ) → (remove_in i g name).answer ≡ Done q → RemoveDone i g name q (remove_in i g name).image
+  pub remove_there : (name : List ℕ) (q : ℕ) → (remove_in i g name).answer ≡ Ok q → RemoveDone i g name q (remove_in i g name).image
   remove_there name q e = let (p, h, d) = remove_promise i g big name q e in subst (λ (m : ℕ). RemoveDone i g name m (remove_in i g name).image) h (go p d)
     where
       ar₃ : Around i g (remove component_limit r g.align name).bytes (remove_in i g name).image

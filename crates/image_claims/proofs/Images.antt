@@ -1,4 +1,5 @@
 -- An image and its region's bytes: what the one says of the other.
+use Rattle.std.specs.Prelude.{Ok}
 use Prim.Native.Nat.{ℕ, ◌+◌, ◌-◌, ◌<◌}
 use native.Mathlib.Nat.{add-sub_cancel_left}
 use native.Mathlib.Omega.{arith}
@@ -19,7 +20,6 @@ use Rattle.region.specs.Region.{region_bytes}
 use Rattle.cbfs_types.specs.declared.Region.{Region}
 use Rattle.region.proofs.Regions.{bytes_fit}
 use Rattle.master_header.specs.Master.{master}
-use Rattle.cbfs_types.specs.declared.Master.TheVariants.{Read}
 use Rattle.master_header.proofs.Facts.{Known, known}
 use Rattle.region_read.specs.RegionRead.{taken_in}
 use Rattle.image_claims.specs.Corruption.{placed, region_listing, entries, LookupGives, LookupRefuses, in_image_slots}
@@ -55,12 +55,11 @@ filter_map f g h (x ∷ l) e = go (g x) refl (filter_map f g h l (λ y m. e y (M
     go false q ih = rw (e x (Memᴰ.head refl), q, ih)
 
 pub any-map : (f : Entry → Bool) (h : Entry → Entry) (l : List Entry) → ((x : Entry) → f (h x) ≡ f x) → any f (map h l) ≡ any f l
-unfolding any
 any-map f h [] e = refl
 any-map f h (x ∷ l) e = rw (e x, any-map f h l e)
 
 -- An image i that is read, its region g, and images x that are as long.
-module _ (i : List ℕ) (g : Region) (read : master i ≡ Read g) where
+module _ (i : List ℕ) (g : Region) (read : master i ≡ Ok g) where
   facts : Known i g
   facts = known i g read
 
@@ -99,10 +98,10 @@ pub through : (w : Bool) (g : Region) (x : List ℕ) (P : Entry → Type 0) → 
 through w g x P h t m = let (u, n, e) = mem_map (region_listing w x g) t m in subst P (sym e) (h u n)
 
 -- What a lookup of the region's bytes gives, the lookup of the image gives.
-pub gives_there : (i : List ℕ) (g : Region) → master i ≡ Read g → (w : Bool) (t : Entry)
+pub gives_there : (i : List ℕ) (g : Region) → master i ≡ Ok g → (w : Bool) (t : Entry)
     → lookup_of w (region_bytes i g) g.align t.component.name ≡ lookup_gives t → LookupGives w i (placed g t)
 gives_there i g read w t e = record { taken = taken_in i g t; found = rw (read, e); place = refl; header = refl; content = rw (read, e) }
 
-pub refuses_there : (i : List ℕ) (g : Region) → master i ≡ Read g → (w : Bool) (name : List ℕ) (n : ℕ)
+pub refuses_there : (i : List ℕ) (g : Region) → master i ≡ Ok g → (w : Bool) (name : List ℕ) (n : ℕ)
     → lookup_of w (region_bytes i g) g.align name ≡ lookup_refused n → LookupRefuses w i name n
 refuses_there i g read w name n e = (rw (read, e), rw (read, e))

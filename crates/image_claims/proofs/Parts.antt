@@ -1,10 +1,11 @@
 -- What the lookups, name_at and content_at give is a part of the image.
+use Rattle.std.specs.Prelude.{Some, None, Result, Ok, Err}
+use Rattle.cbfs_types.specs.declared.Refusal.{Refusal}
 use Prim.Native.Nat.{ℕ, ◌+◌, ◌-◌, ◌≤◌}
 use native.Mathlib.Omega.{arith}
 use mathlib.Core.Path.{◌≡◌, refl, sym, ap, subst, ◌∙◌}
 use mathlib.Core.List.{List, []}
 use mathlib.Core.Bool.{Bool, true, false, true≢false}
-use mathlib.Core.Option.{some, none}
 use lib.ListN.{length, take, drop, length-drop}
 use lib.Seq.{length-take-le, drop-drop}
 use Rattle.bytes_read.specs.Number.{be}
@@ -26,12 +27,9 @@ use Rattle.cbfs_types.specs.declared.Region.{Region}
 use Rattle.region.proofs.Tables.{given_one}
 use Rattle.master_header.specs.Master.{master}
 use Rattle.master_header.specs.Table.{region, master_rows}
-use Rattle.cbfs_types.specs.declared.Master.{Master}
-use Rattle.cbfs_types.specs.declared.Master.TheVariants.{Read, Refused}
 use Rattle.master_header.proofs.Facts.{Known, known}
 use Rattle.master_header.proofs.Exactly.{master_read, master_refused}
 use Rattle.region_read.specs.RegionRead.{is_step_start, taken_in, from_place}
-use Rattle.cbfs_types.specs.declared.Found.TheVariants.{At}
 use Rattle.region_read.proofs.Numbers as Numbers
 use Rattle.load_segment.proofs.Finding.{part_of-first, in_image, standing, standing_name}
 use Rattle.image_find.specs.ImageFind.{image_find, image_content, name_at, content_at}
@@ -42,7 +40,7 @@ use Rattle.image_claims.proofs.Refusing.{nine}
 use Rattle.image_claims.proofs.Theorems.{listed_parts, found_entry}
 
 -- The part of the image from a place up to the region's end, and the component c that is judged there.
-module _ (i : List ℕ) (g : Region) (read : master i ≡ Read g) (p : ℕ) (lo : g.start ≤ p) (hi : p ≤ g.end) where
+module _ (i : List ℕ) (g : Region) (read : master i ≡ Ok g) (p : ℕ) (lo : g.start ≤ p) (hi : p ≤ g.end) where
   facts : Known i g
   facts = known i g read
 
@@ -87,15 +85,15 @@ module _ (i : List ℕ) (p : ℕ) where
   abbrev judged : List ℕ
   judged = take ((region i).end - p) (drop p i)
 
-  is_read : FirstRowMet (master_rows i) 0 → master i ≡ Read (region i)
+  is_read : FirstRowMet (master_rows i) 0 → master i ≡ Ok (region i)
   is_read z = go (master i) refl
     where
-      go : (m : Master) → master i ≡ m → master i ≡ Read (region i)
-      go (Read g) e = (master_read i g e).1
-      go (Refused x) e = absurd ((master_refused i x e).0 (given_one (master_rows i) x.number 0 (master_refused i x e).1 z))
+      go : (m : Result Region Refusal) → master i ≡ m → master i ≡ Ok (region i)
+      go (Ok g) e = (master_read i g e).1
+      go (Err x) e = absurd ((master_refused i x e).0 (given_one (master_rows i) x.number 0 (master_refused i x e).1 z))
 
   -- A number to step from lies in the region or at its end, and the part from there on is the judged one.
-  from_place_lem : master i ≡ Read (region i) → is_step_start (region i) p ≡ true → from_place i (region i) p ≡ judged
+  from_place_lem : master i ≡ Ok (region i) → is_step_start (region i) p ≡ true → from_place i (region i) p ≡ judged
   unfolding from_place
   from_place_lem e q = let f = Numbers.fit_from (region i) p q in rw q (place_part i (region i) e p f.0 f.1)
 
@@ -104,10 +102,10 @@ module _ (i : List ℕ) (p : ℕ) where
       let e = is_read a.not_refused in
       let q = fits e (is_step_start (region i) p) refl in
       let f = Numbers.fit_from (region i) p q in
-      let j : judge (from_place i (region i) p) ≡ some (component judged n) = rw (from_place_lem e q) (judge_words judged n a.header) in
+      let j : judge (from_place i (region i) p) ≡ Some (component judged n) = rw (from_place_lem e q) (judge_words judged n a.header) in
       given i (region i) e p f.0 f.1 n a.header (rw (e, j)) (rw (e, j))
     where
-      fits : master i ≡ Read (region i) → (b : Bool) → is_step_start (region i) p ≡ b → b ≡ true
+      fits : master i ≡ Ok (region i) → (b : Bool) → is_step_start (region i) p ≡ b → b ≡ true
       fits e true q = refl
       fits e false q = absurd (a.at_place ((nine i p e).0 q))
 
@@ -115,10 +113,10 @@ module _ (i : List ℕ) (p : ℕ) where
   unfolding from_place
   parts_empty h = go (master i) refl
     where
-      none_there : master i ≡ Read (region i) → judge (from_place i (region i) p) ≡ none → NoParts i p
+      none_there : master i ≡ Ok (region i) → judge (from_place i (region i) p) ≡ None → NoParts i p
       none_there e j = (rw (e, j), rw (e, j))
 
-      by : (g : Region) → master i ≡ Read g → master i ≡ Read (region i) → (b : Bool) → is_step_start (region i) p ≡ b → NoParts i p
+      by : (g : Region) → master i ≡ Ok g → master i ≡ Ok (region i) → (b : Bool) → is_step_start (region i) p ≡ b → NoParts i p
       by g m e false q =
           let w : from_place i (region i) p ≡ [] = rw q in
           none_there e (rw w (judge_no_magic [] (short_no_magic [] (omega arith))))
@@ -128,12 +126,12 @@ module _ (i : List ℕ) (p : ℕ) where
         header = w;
       }))))
 
-      go : (m : Master) → master i ≡ m → NoParts i p
-      go (Read g) m = by g m (master_read i g m).1 (is_step_start (region i) p) refl
-      go (Refused x) m = (rw m, rw m)
+      go : (m : Result Region Refusal) → master i ≡ m → NoParts i p
+      go (Ok g) m = by g m (master_read i g m).1 (is_step_start (region i) p) refl
+      go (Err x) m = (rw m, rw m)
 
 -- Both lookups.
-pub found_parts : (i : List ℕ) (g : Region) → master i ≡ Read g → (w : Bool) (name : List ℕ) (t : Taken) → image_find w i name ≡ At t → FoundParts w i name t
+pub found_parts : (i : List ℕ) (g : Region) → master i ≡ Ok g → (w : Bool) (name : List ℕ) (t : Taken) → image_find w i name ≡ Ok t → FoundParts w i name t
 found_parts i g read w name t f = let (e, q, u, c) = found_entry i g read w name t f in subst (FoundParts w i name) u (go e q c)
   where
     go : (e : Entry) → lookup_of w (region_bytes i g) g.align name ≡ lookup_gives e → image_content w i name ≡ e.component.content

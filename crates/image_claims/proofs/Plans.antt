@@ -1,62 +1,60 @@
 -- What is known of every plan of a whole image i, over the definitions that the contracts of `image_stage` and `image_payload` cite.
-use Prim.Native.Nat.{ℕ}
-use mathlib.Core.Path.{◌≡◌, refl, sym, ap, ◌∙◌}
-use mathlib.Core.List.{List}
-use Rattle.region.specs.Region.{refusal_by}
+use Rattle.std.specs.Prelude.{ℕ, ◌≡◌, List, refl, Result, Ok, Err}
+use Rattle.std.proofs.Common.{subst, arith}
+use Rattle.region.specs.Region.{and_then}
 use Rattle.cbfs_types.specs.declared.Region.{Region}
 use Rattle.cbfs_types.specs.declared.Refusal.{Refusal}
 use Rattle.cbfs_types.specs.declared.Taken.{Taken}
+use Rattle.cbfs_types.specs.declared.StagePlan.{StagePlan}
+use Rattle.cbfs_types.specs.declared.PayloadPlan.{PayloadPlan}
 use Rattle.master_header.specs.Master.{master}
-use Rattle.cbfs_types.specs.declared.Master.{Master}
-use Rattle.cbfs_types.specs.declared.Master.TheVariants.{Read, Refused}
 use Rattle.master_header.proofs.Facts.{refused_number, refused_place}
-use Rattle.cbfs_types.specs.declared.Found.TheVariants.{At}
-use Rattle.load_stage.specs.Stage.{refused_stage, stage_in}
-use Rattle.load_payload.specs.Payload.{refused_payload, payload_in}
+use Rattle.load_segment.proofs.Finding.{Refuses}
+use Rattle.load_stage.specs.Stage.{stage_in}
+use Rattle.load_payload.specs.Payload.{payload_in}
 use Rattle.load_stage.specs.Accepted.{AcceptedStage}
 use Rattle.load_payload.specs.Accepted.{AcceptedPayload}
 use Rattle.load_stage.proofs.Theorems as Stage
 use Rattle.load_payload.proofs.Theorems as Payload
 use Rattle.image_find.specs.ImageFind.{guarded_find, guarded_content}
-use Rattle.image_load.specs.ImageLoad.{plan_on, image_stage, image_payload}
+use Rattle.image_load.specs.ImageLoad.{image_stage, image_payload}
 
--- What the number of an answer says, for plans A of either kind.
-module _ {A : Type 0} (number : A → ℕ) (refusal : Refusal → A) (number_is : (r : Refusal) → number (refusal r) ≡ r.number) (i : List ℕ)
-    (call : Region → A) where
-  -- Number 0 is that of a plan over the image's region.
-  read_plan : number (plan_on (master i) refusal call) ≡ 0 → (g : Region) × (master i ≡ Read g)
-  read_plan h = go (master i) refl h
+-- Plans of either kind.
+module _ {A : Type 0} (i : List ℕ) (call : Region → Result A Refusal) where
+  -- A plan is one over the image's region.
+  read_plan : (p : A) → and_then (master i) call ≡ Ok p → (g : Region) × (master i ≡ Ok g)
+  read_plan p h = go (master i) refl h
     where
-      go : (m : Master) → master i ≡ m → number (plan_on m refusal call) ≡ 0 → (g : Region) × (master i ≡ Read g)
-      go (Read g) e z = (g, e)
-      go (Refused r) e z = absurd (refused_number i r e (sym (number_is r) ∙ z))
+      go : (m : Result Region Refusal) → master i ≡ m → and_then m call ≡ Ok p → (g : Region) × (master i ≡ Ok g)
+      go (Ok g) e z = (g, e)
+      go (Err r) e z = let y : ◌≡◌ {A = ℕ} 0 1 = cc in absurd (omega arith)
 
-  refusal_zero : ((g : Region) → (number (call g) ≡ 0 → ⊥) → call g ≡ refusal (refusal_by (number (call g))))
-      → (number (plan_on (master i) refusal call) ≡ 0 → ⊥) → plan_on (master i) refusal call ≡ refusal (refusal_by (number (plan_on (master i) refusal call)))
-  refusal_zero each h = go (master i) refl h
+  -- A refusal is the master header's, or that of the call over the region.
+  plan_refusal : ((g : Region) (r : Refusal) → call g ≡ Err r → Refuses r) → (r : Refusal) → and_then (master i) call ≡ Err r → Refuses r
+  plan_refusal each r h = go (master i) refl h
     where
-      go : (m : Master) → master i ≡ m → (number (plan_on m refusal call) ≡ 0 → ⊥) → plan_on m refusal call ≡ refusal (refusal_by (number (plan_on m refusal call)))
-      go (Read g) e z = each g z
-      go (Refused r) e z = ap refusal (refused_place i r e ∙ ap refusal_by (sym (number_is r)))
+      go : (m : Result Region Refusal) → master i ≡ m → and_then m call ≡ Err r → Refuses r
+      go (Ok g) e z = each g r z
+      go (Err x) e z = let y : x ≡ r = cc in subst Refuses y (refused_number i x e, refused_place i x e)
 
 module _ (i name : List ℕ) where
-  -- An accepted plan is that of the component t which the guarded lookup gives; the record names what is known of it.
+  -- A plan that is given is that of the component t which the guarded lookup gives; the record names what is known of it.
 
-  pub stage_accepted : (image_stage i name).number ≡ 0 → (t : Taken) × (guarded_find i name ≡ At t) × AcceptedStage i (guarded_content i name) t (image_stage i name)
-  stage_accepted h =
-      let (g, e) = read_plan Stage.number refused_stage (λ r. refl) i (λ g. stage_in i g name) h in
-      rw e (Stage.stage_accepted i g name (rw e at h))
+  pub stage_accepted : (p : StagePlan) → image_stage i name ≡ Ok p → (t : Taken) × (guarded_find i name ≡ Ok t) × AcceptedStage i (guarded_content i name) t p
+  stage_accepted p h =
+      let (g, e) = read_plan i (λ g. stage_in i g name) p h in
+      rw e (Stage.stage_accepted i g name p (rw e at h))
 
-  pub payload_accepted : (image_payload i name).number ≡ 0
-      → (t : Taken) × (guarded_find i name ≡ At t) × AcceptedPayload i (guarded_content i name) t (image_payload i name)
-  payload_accepted h =
-      let (g, e) = read_plan Payload.number refused_payload Payload.refused_number i (λ g. payload_in i g name) h in
-      rw e (Payload.payload_accepted i g name (rw e at h))
+  pub payload_accepted : (p : PayloadPlan) → image_payload i name ≡ Ok p
+      → (t : Taken) × (guarded_find i name ≡ Ok t) × AcceptedPayload i (guarded_content i name) t p
+  payload_accepted p h =
+      let (g, e) = read_plan i (λ g. payload_in i g name) p h in
+      rw e (Payload.payload_accepted i g name p (rw e at h))
 
-  -- A refusal has its number, reports place 0, and is zero otherwise.
+  -- A refusal has a number that is not 0, and reports place 0.
 
-  pub stage_refused : ((image_stage i name).number ≡ 0 → ⊥) → image_stage i name ≡ refused_stage (refusal_by (image_stage i name).number)
-  stage_refused = refusal_zero Stage.number refused_stage (λ r. refl) i (λ g. stage_in i g name) (λ g. Stage.stage_refused i g name)
+  pub stage_refused : (r : Refusal) → image_stage i name ≡ Err r → Refuses r
+  stage_refused = plan_refusal i (λ g. stage_in i g name) (λ g. Stage.stage_refused i g name)
 
-  pub payload_refused : ((image_payload i name).number ≡ 0 → ⊥) → image_payload i name ≡ refused_payload (refusal_by (image_payload i name).number)
-  payload_refused = refusal_zero Payload.number refused_payload Payload.refused_number i (λ g. payload_in i g name) (λ g. Payload.payload_refused i g name)
+  pub payload_refused : (r : Refusal) → image_payload i name ≡ Err r → Refuses r
+  payload_refused = plan_refusal i (λ g. payload_in i g name) (λ g. Payload.payload_refused i g name)

@@ -1,10 +1,10 @@
 -- Each refusal of a call over a whole image is given exactly when document 01's table says, in the order of the call; and the place that it reports.
+use Rattle.std.specs.Prelude.{Option, Result, Ok, Err}
 use Prim.Native.Nat.{ℕ, ◌+◌, ◌-◌, ◌%◌, ◌≤◌, ◌<◌}
 use native.Mathlib.Omega.{arith}
 use native.Mathlib.Decide.{dec_lt}
 use mathlib.Core.Path.{◌≡◌, refl, sym, ap, subst, ◌∙◌}
 use mathlib.Core.Bool.{Bool, true, false, cond, true≢false}
-use mathlib.Core.Option.{Option, some, none}
 use mathlib.Core.List.{List, [], ◌∷◌, ◌++◌, Memᴰ}
 use mathlib.Core.Logic.{◌⊎◌, inl, inr, ◌↔◌}
 use lib.ListN.{length}
@@ -19,8 +19,6 @@ use Rattle.cbfs_types.specs.declared.Refusal.{Refusal}
 use Rattle.region.proofs.Tables.{Fails, later_row, other_fails, neither, last_fails, either, one_fails, said, given_exactly, given_here, given_later, not_given}
 use Rattle.master_header.specs.Master.{master}
 use Rattle.master_header.specs.Table.{align, region, master_rows}
-use Rattle.cbfs_types.specs.declared.Master.{Master}
-use Rattle.cbfs_types.specs.declared.Master.TheVariants.{Read, Refused}
 use Rattle.master_header.proofs.Facts.{known, refused_number, refused_place}
 use Rattle.master_header.proofs.Exactly.{master_read, master_refused}
 use Rattle.walk.specs.Walk.{Entry, step, pick_of, plain_listing, guarded_listing}
@@ -37,35 +35,32 @@ use Rattle.edit_rules.specs.Edit.{replace_after_check, remove_after_check, Entry
 use Rattle.edit_rules.specs.Table.{add_rows, replace_rows, remove_rows, decision_number}
 use Rattle.edit_rules.proofs.Exactly.{EditNumber, add_numbers, replace_numbers, remove_numbers, add_given, replace_given, remove_given}
 use Rattle.edit_write.specs.EditWrite.{EditResult, edit_answer, edit_result_in, add_in, replace_in, remove_in}
-use Rattle.cbfs_types.specs.declared.Edited.TheVariants.{Refused as EditRefused}
 use Rattle.region_read.specs.RegionRead.{is_step_start, step_by, step_answer_in, find_answer_in}
-use Rattle.cbfs_types.specs.declared.Step.TheVariants.{Refused as StepRefused}
-use Rattle.cbfs_types.specs.declared.Found.TheVariants.{Refused as FoundRefused}
 use Rattle.region_read.proofs.Numbers as Numbers
 use Rattle.image_walk.specs.ImageWalk.{image_step, strict_check}
 use Rattle.image_find.specs.ImageFind.{image_find, image_content, plain_find, guarded_find}
 use Rattle.image_edit.specs.ImageEdit.{edit_on, image_add, image_replace, image_remove}
-use Rattle.image_claims.specs.Table.{master_number, step_number, find_number, edit_number, image_region_bytes, listed_by, NotStepStart, step_rows, plain_rows}
+use Rattle.image_claims.specs.Table.{answer_number, image_region_bytes, listed_by, NotStepStart, step_rows, plain_rows}
 use Rattle.image_claims.specs.Table.{guarded_rows}
-use Rattle.image_claims.specs.Table.{strict_rows, LowestUntakenInImage, RefusalPlace, RefusalHas, image_add_rows, image_replace_rows, image_remove_rows}
+use Rattle.image_claims.specs.Table.{strict_rows, LowestUntakenInImage, RefusalHas, image_add_rows, image_replace_rows, image_remove_rows}
 use Rattle.image_claims.proofs.Images.{bytes_length}
 
 -- The number n of a call: the master header's, or else what the call gives over the image's region.
-on_image : (i : List ℕ) (rest : List Row) (n : ℕ) → ((x : Refusal) → master i ≡ Refused x → n ≡ x.number)
-    → (master i ≡ Read (region i) → FirstRowMet rest n) → (m : ℕ) → (n ≡ m) ↔ FirstRowMet (master_rows i ++ rest) m
+on_image : (i : List ℕ) (rest : List Row) (n : ℕ) → ((x : Refusal) → master i ≡ Err x → n ≡ x.number)
+    → (master i ≡ Ok (region i) → FirstRowMet rest n) → (m : ℕ) → (n ≡ m) ↔ FirstRowMet (master_rows i ++ rest) m
 on_image i rest n early late = given_exactly (master_rows i ++ rest) n (go (master i) refl)
   where
-    go : (m : Master) → master i ≡ m → FirstRowMet (master_rows i ++ rest) n
-    go (Read g) e = let (z, s) = master_read i g e in given_later (master_rows i) rest n refl z (late s)
-    go (Refused x) e = let (s, g) = master_refused i x e in rw (early x e) (given_here (master_rows i) rest x.number s g)
+    go : (m : Result Region Refusal) → master i ≡ m → FirstRowMet (master_rows i ++ rest) n
+    go (Ok g) e = let (z, s) = master_read i g e in given_later (master_rows i) rest n refl z (late s)
+    go (Err x) e = let (s, g) = master_refused i x e in rw (early x e) (given_here (master_rows i) rest x.number s g)
 
 -- 1 to 8.
-pub region_exactly : (i : List ℕ) (n : ℕ) → (master_number (master i) ≡ n) ↔ FirstRowMet (master_rows i) n
-region_exactly i = given_exactly (master_rows i) (master_number (master i)) (go (master i) refl)
+pub region_exactly : (i : List ℕ) (n : ℕ) → (answer_number (master i) ≡ n) ↔ FirstRowMet (master_rows i) n
+region_exactly i = given_exactly (master_rows i) (answer_number (master i)) (go (master i) refl)
   where
-    go : (m : Master) → master i ≡ m → FirstRowMet (master_rows i) (master_number m)
-    go (Read g) e = (master_read i g e).0
-    go (Refused x) e = (master_refused i x e).1
+    go : (m : Result Region Refusal) → master i ≡ m → FirstRowMet (master_rows i) (answer_number m)
+    go (Ok g) e = (master_read i g e).0
+    go (Err x) e = (master_refused i x e).1
 
 -- An image i, the bytes s of its region g, and its align a.
 module _ (i : List ℕ) where
@@ -83,7 +78,7 @@ module _ (i : List ℕ) where
 
   -- The image is read.
   abbrev Is : Type 0
-  Is = master i ≡ Read g
+  Is = master i ≡ Ok g
 
   align_some : Is → 0 < a
   align_some e = omega (arith, (known i g e).least)
@@ -128,18 +123,14 @@ module _ (i : List ℕ) where
   taken w from = step (pick_of w s a) s a (from - g.start)
 
   -- A step of either walk: 1 to 9.
-  pub step_exactly : (w : Bool) (from n : ℕ) → (step_number (image_step w i from) ≡ n) ↔ FirstRowMet (step_rows i from) n
+  pub step_exactly : (w : Bool) (from n : ℕ) → (answer_number (image_step w i from) ≡ n) ↔ FirstRowMet (step_rows i from) n
   unfolding step_by
   step_exactly w from =
-      on_image i (row 9 (NotStepStart i from) ∷ []) (step_number (image_step w i from)) (λ x e. rw e) (λ e. rw e (go e (is_step_start g from) refl))
+      on_image i (row 9 (NotStepStart i from) ∷ []) (answer_number (image_step w i from)) (λ x e. rw e) (λ e. rw e (go e (is_step_start g from) refl))
     where
-      zero : (o : Option Entry) → step_number (step_answer_in i g o) ≡ 0
-      zero none = refl
-      zero (some t) = refl
-
       go : Is → (b : Bool) → is_step_start g from ≡ b
-          → FirstRowMet (row 9 (NotStepStart i from) ∷ []) (step_number (cond b (step_answer_in i g (taken w from)) (StepRefused (refusal_by 9))))
-      go e true q = inr (λ c. true≢false (sym q ∙ (nine from e).1 c), zero (taken w from))
+          → FirstRowMet (row 9 (NotStepStart i from) ∷ []) (answer_number (cond b (Ok (step_answer_in i g (taken w from))) (Err (refusal_by 9))))
+      go e true q = inr (λ c. true≢false (sym q ∙ (nine from e).1 c), refl)
       go e false q = inl ((nine from e).0 q, refl)
 
   -- Lookups: 1 to 8, 10, and 11 for the guarded one.
@@ -157,21 +148,21 @@ module _ (i : List ℕ) where
         let k = mem_filter (bears name) (listed_by i w) t m in
         h t (k.0, bears_name_lem name t k.1)
 
-    pub plain_find_exactly : (n : ℕ) → (find_number (plain_find i name) ≡ n) ↔ FirstRowMet (plain_rows i name) n
+    pub plain_find_exactly : (n : ℕ) → (answer_number (plain_find i name) ≡ n) ↔ FirstRowMet (plain_rows i name) n
     unfolding first_or_refused
     plain_find_exactly =
-        on_image i (row 10 (NoBearer (listed_by i false) name) ∷ []) (find_number (plain_find i name)) (λ x e. rw e) (λ e. rw e (go (kept false) refl))
+        on_image i (row 10 (NoBearer (listed_by i false) name) ∷ []) (answer_number (plain_find i name)) (λ x e. rw e) (λ e. rw e (go (kept false) refl))
       where
-        go : (k : List Entry) → kept false ≡ k → FirstRowMet (row 10 (NoBearer (listed_by i false) name) ∷ []) (find_number (find_answer_in i g (first_or_refused k)))
+        go : (k : List Entry) → kept false ≡ k → FirstRowMet (row 10 (NoBearer (listed_by i false) name) ∷ []) (answer_number (find_answer_in i g (first_or_refused k)))
         go [] q = inl (no_bearer false q, refl)
         go (t ∷ ts) q = inr (some_bearer false t ts q, refl)
 
     abbrev rows : List Row
     rows = row 10 (NoBearer (listed_by i true) name) ∷ row 11 (TwoBearers name (listed_by i true)) ∷ []
 
-    pub guarded_find_exactly : (n : ℕ) → (find_number (guarded_find i name) ≡ n) ↔ FirstRowMet (guarded_rows i name) n
+    pub guarded_find_exactly : (n : ℕ) → (answer_number (guarded_find i name) ≡ n) ↔ FirstRowMet (guarded_rows i name) n
     unfolding only_or_refused
-    guarded_find_exactly = on_image i rows (find_number (guarded_find i name)) (λ x e. rw e) (λ e. rw e (go (kept true) refl))
+    guarded_find_exactly = on_image i rows (answer_number (guarded_find i name)) (λ x e. rw e) (λ e. rw e (go (kept true) refl))
       where
         one : (t : Entry) → kept true ≡ t ∷ [] → TwoBearers name (listed_by i true) → ⊥
         one t q w =
@@ -179,46 +170,46 @@ module _ (i : List ℕ) where
             let y : ◌≡◌ {A = ℕ} 0 1 = cc in
             omega arith
 
-        go : (k : List Entry) → kept true ≡ k → FirstRowMet rows (find_number (find_answer_in i g (only_or_refused k)))
+        go : (k : List Entry) → kept true ≡ k → FirstRowMet rows (answer_number (find_answer_in i g (only_or_refused k)))
         go [] q = inl (no_bearer true q, refl)
         go (t ∷ []) q = inr (some_bearer true t [] q, inr (one t q, refl))
         go (t ∷ u ∷ us) q = inr (some_bearer true t (u ∷ us) q, inl ((two_bearers name (listed_by i true)).0 (rw q), refl))
 
   -- The strict check: 1 to 8, 12, 13, 11.
-  pub strict_exactly : (n : ℕ) → ((strict_check i).number ≡ n) ↔ FirstRowMet (strict_rows i) n
-  strict_exactly = on_image i (check_rows component_limit s a) (strict_check i).number (λ x e. rw e)
+  pub strict_exactly : (n : ℕ) → (answer_number (strict_check i) ≡ n) ↔ FirstRowMet (strict_rows i) n
+  strict_exactly = on_image i (check_rows component_limit s a) (answer_number (strict_check i)) (λ x e. rw e)
       (λ e. rw e (go v ((check_exactly component_limit s a (align_some e) (verdict_number v)).0 refl)))
     where
       go : (w : Verdict) → FirstRowMet (check_rows component_limit s a) (verdict_number w)
-          → FirstRowMet (check_rows component_limit s a) (directory_answer component_limit g.start w).number
+          → FirstRowMet (check_rows component_limit s a) (answer_number (directory_answer component_limit g.start w))
       go (check_refused n p) h = h
       go (check_accepted ps) h = h
 
   -- Edits: the same, then their own.
 
-  edit_number_lem : (d : Decision) → edit_number (edit_answer g.start (carried_out s d).answer) ≡ decision_number d
+  edit_number_lem : (d : Decision) → answer_number (edit_answer g.start (carried_out s d).answer) ≡ decision_number d
   unfolding carried_out
   edit_number_lem (refuse n p) = refl
   edit_number_lem (write y b) = refl
 
   module _ (name : List ℕ) where
     pub add_exactly : (kind : ℕ) (content : List ℕ) (n : ℕ)
-        → (edit_number (image_add i name kind content).answer ≡ n) ↔ FirstRowMet (image_add_rows i name kind content) n
+        → (answer_number (image_add i name kind content).answer ≡ n) ↔ FirstRowMet (image_add_rows i name kind content) n
     unfolding add
     add_exactly kind content =
-        on_image i (check_rows component_limit s a ++ add_rows component_limit s a name kind content) (edit_number (image_add i name kind content).answer)
+        on_image i (check_rows component_limit s a ++ add_rows component_limit s a name kind content) (answer_number (image_add i name kind content).answer)
         (λ x e. rw e)
         (λ e. rw (e, edit_number_lem (add_decision component_limit s a name kind content)) (add_given s a (align_some e) (small e) name kind content))
 
-    pub replace_exactly : (content : List ℕ) (n : ℕ) → (edit_number (image_replace i name content).answer ≡ n) ↔ FirstRowMet (image_replace_rows i name content) n
+    pub replace_exactly : (content : List ℕ) (n : ℕ) → (answer_number (image_replace i name content).answer ≡ n) ↔ FirstRowMet (image_replace_rows i name content) n
     unfolding replace
     replace_exactly content =
-        on_image i (check_rows component_limit s a ++ replace_rows s a name content) (edit_number (image_replace i name content).answer) (λ x e. rw e)
+        on_image i (check_rows component_limit s a ++ replace_rows s a name content) (answer_number (image_replace i name content).answer) (λ x e. rw e)
         (λ e. rw (e, edit_number_lem (replace_decision component_limit s a name content)) (replace_given s a (align_some e) (small e) name content))
 
-    pub remove_exactly : (n : ℕ) → (edit_number (image_remove i name).answer ≡ n) ↔ FirstRowMet (image_remove_rows i name) n
+    pub remove_exactly : (n : ℕ) → (answer_number (image_remove i name).answer ≡ n) ↔ FirstRowMet (image_remove_rows i name) n
     unfolding remove
-    remove_exactly = on_image i (check_rows component_limit s a ++ remove_rows s a name) (edit_number (image_remove i name).answer) (λ x e. rw e)
+    remove_exactly = on_image i (check_rows component_limit s a ++ remove_rows s a name) (answer_number (image_remove i name).answer) (λ x e. rw e)
         (λ e. rw (e, edit_number_lem (remove_decision component_limit s a name)) (remove_given s a (align_some e) (small e) name))
 
 -- What a refusal says: a number that is not 0, and its place, which is the lowest such place for 12 and 0 for every other one.
@@ -265,90 +256,79 @@ module _ (i : List ℕ) where
   checked : Is i → (n p : ℕ) → v i ≡ check_refused n p → Says (from_start n p)
   checked e n p q = says_from_start n p (check_number n p (no_other component_limit (s i) (a i) n p q)) (λ z. lowest e p (rw z at q))
 
+  -- An answer is one refusal.
+  same : {A : Type 0} (x y : Refusal) → ◌≡◌ {A = Result A Refusal} (Err y) (Err x) → Says y → Says x
+  same x y q h = let z : y ≡ x = cc in subst Says z h
+
   -- The master header's refusals.
-  pub region_refusal : (x : Refusal) → master i ≡ Refused x → Says x
+  pub region_refusal : (x : Refusal) → master i ≡ Err x → Says x
   region_refusal x e = record {
     some_number = refused_number i x e;
     place = ((λ z. absurd (not_given 12 (master_rows i) refl (rw z at (master_refused i x e).1))), λ n. ap (λ (y : Refusal). y.place) (refused_place i x e));
   }
 
-  pub step_refusal : (w : Bool) (from : ℕ) (x : Refusal) → image_step w i from ≡ StepRefused x → Says x
+  pub step_refusal : (w : Bool) (from : ℕ) (x : Refusal) → image_step w i from ≡ Err x → Says x
   unfolding step_by
   step_refusal w from x e = go (master i) refl e
     where
-      same : (y : Refusal) → StepRefused y ≡ StepRefused x → Says y → Says x
-      same y q h = let z : y ≡ x = cc in subst Says z h
+      by : (b : Bool) → cond b (Ok (step_answer_in i (g i) (taken i w from))) (Err (refusal_by 9)) ≡ Err x → Says x
+      by true q = let z : ◌≡◌ {A = ℕ} 0 1 = cc in absurd (omega arith)
+      by false q = same x (refusal_by 9) q (no_place 9 (λ z. omega arith, λ z. omega arith))
 
-      took : (o : Option Entry) → step_answer_in i (g i) o ≡ StepRefused x → Says x
-      took none q = let z : ◌≡◌ {A = ℕ} 0 1 = cc in absurd (omega arith)
-      took (some t) q = let z : ◌≡◌ {A = ℕ} 0 1 = cc in absurd (omega arith)
-
-      by : (b : Bool) → cond b (step_answer_in i (g i) (taken i w from)) (StepRefused (refusal_by 9)) ≡ StepRefused x → Says x
-      by true q = took (taken i w from) q
-      by false q = same (refusal_by 9) q (no_place 9 (λ z. omega arith, λ z. omega arith))
-
-      go : (m : Master) → master i ≡ m → image_step w i from ≡ StepRefused x → Says x
-      go (Read h) q f = by (is_step_start (g i) from) (rw (master_read i h q).1 at f)
-      go (Refused y) q f = same y (rw q at f) (region_refusal y q)
+      go : (m : Result Region Refusal) → master i ≡ m → image_step w i from ≡ Err x → Says x
+      go (Ok h) q f = by (is_step_start (g i) from) (rw (master_read i h q).1 at f)
+      go (Err y) q f = same x y (rw q at f) (region_refusal y q)
 
   -- "A refusal gives an empty part."
-  pub find_refusal : (w : Bool) (name : List ℕ) (x : Refusal) → image_find w i name ≡ FoundRefused x → Says x × (image_content w i name ≡ [])
+  pub find_refusal : (w : Bool) (name : List ℕ) (x : Refusal) → image_find w i name ≡ Err x → Says x × (image_content w i name ≡ [])
   find_refusal w name x e = go (master i) refl e
     where
-      same : (y : Refusal) → FoundRefused y ≡ FoundRefused x → Says y → Says x
-      same y q h = let z : y ≡ x = cc in subst Says z h
-
-      by : Is i → (o : LookupResult) → lookup_of w (s i) (a i) name ≡ o → find_answer_in i (g i) o ≡ FoundRefused x → Says x × (image_content w i name ≡ [])
-      by f (lookup-refused n) q h = (same (refusal_by n) h (no_place n (lookup_number w (s i) (a i) name n q)), rw (f, q))
+      by : Is i → (o : LookupResult) → lookup_of w (s i) (a i) name ≡ o → find_answer_in i (g i) o ≡ Err x → Says x × (image_content w i name ≡ [])
+      by f (lookup-refused n) q h = (same x (refusal_by n) h (no_place n (lookup_number w (s i) (a i) name n q)), rw (f, q))
       by f (lookup_gives t) q h = let z : ◌≡◌ {A = ℕ} 0 1 = cc in absurd (omega arith)
 
-      go : (m : Master) → master i ≡ m → image_find w i name ≡ FoundRefused x → Says x × (image_content w i name ≡ [])
-      go (Read h) q f = let p = (master_read i h q).1 in by p (lookup_of w (s i) (a i) name) refl (rw p at f)
-      go (Refused y) q f = (same y (rw q at f) (region_refusal y q), rw q)
+      go : (m : Result Region Refusal) → master i ≡ m → image_find w i name ≡ Err x → Says x × (image_content w i name ≡ [])
+      go (Ok h) q f = let p = (master_read i h q).1 in by p (lookup_of w (s i) (a i) name) refl (rw p at f)
+      go (Err y) q f = (same x y (rw q at f) (region_refusal y q), rw q)
 
-  -- The strict check's answer has a number and a place by itself.
-  pub strict_place_lem : RefusalPlace i (strict_check i).number (strict_check i).place
-  strict_place_lem = go (master i) refl
+  pub strict_refusal : (x : Refusal) → strict_check i ≡ Err x → Says x
+  strict_refusal x e = go (master i) refl e
     where
-      by : Is i → (w : Verdict) → v i ≡ w → RefusalPlace i (directory_answer component_limit (g i).start w).number
-          (directory_answer component_limit (g i).start w).place
-      by e (check_refused n p) q = (checked e n p q).place
-      by e (check_accepted ps) q = ((λ z. absurd (omega arith)), λ z. refl)
+      by : Is i → (w : Verdict) → v i ≡ w → directory_answer component_limit (g i).start w ≡ Err x → Says x
+      by f (check_refused n p) q h = same x (from_start n p) h (checked f n p q)
+      by f (check_accepted ps) q h = let z : ◌≡◌ {A = ℕ} 0 1 = cc in absurd (omega arith)
 
-      go : (m : Master) → master i ≡ m → RefusalPlace i (strict_check i).number (strict_check i).place
-      go (Read h) e = let f = (master_read i h e).1 in rw f (by f (v i) refl)
-      go (Refused x) e = rw e (region_refusal x e).place
+      go : (m : Result Region Refusal) → master i ≡ m → strict_check i ≡ Err x → Says x
+      go (Ok h) q f = let p = (master_read i h q).1 in by p (v i) refl (rw p at f)
+      go (Err y) q f = same x y (rw q at f) (region_refusal y q)
 
   -- An edit with its own decision d, after the strict check.
   module _ (call : Region → EditResult) (d : Decision) (is : call (g i) ≡ edit_result_in i (g i) (carried_out (s i) (after_check (v i) d))) (numbers : EditNumber d)
       (x : Refusal) where
     -- The region's answer is this refusal.
     abbrev Gave : Decision → Type 0
-    Gave f = edit_answer (g i).start (carried_out (s i) f).answer ≡ EditRefused x
-
-    same : (y : Refusal) → EditRefused y ≡ EditRefused x → Says y → Says x
-    same y q h = let z : y ≡ x = cc in subst Says z h
+    Gave f = edit_answer (g i).start (carried_out (s i) f).answer ≡ Err x
 
     own : (f : Decision) → EditNumber f → Gave f → Says x
     unfolding carried_out
-    own (refuse n p) k q = same (from_start n p) q (says_from_start n p k.0 (λ z. absurd (k.1 z)))
+    own (refuse n p) k q = same x (from_start n p) q (says_from_start n p k.0 (λ z. absurd (k.1 z)))
     own (write y b) k q = let z : ◌≡◌ {A = ℕ} 0 1 = cc in absurd (omega arith)
 
     by : Is i → (w : Verdict) → v i ≡ w → Gave (after_check w d) → Says x
     unfolding carried_out
-    by e (check_refused n p) f q = same (from_start n p) q (checked e n p f)
+    by e (check_refused n p) f q = same x (from_start n p) q (checked e n p f)
     by e (check_accepted ps) f q = own d numbers q
 
-    edit_refusal : (edit_on i (master i) call).answer ≡ EditRefused x → Says x
+    edit_refusal : (edit_on i (master i) call).answer ≡ Err x → Says x
     edit_refusal e = go (master i) refl e
       where
-        go : (m : Master) → master i ≡ m → (edit_on i m call).answer ≡ EditRefused x → Says x
-        go (Read h) q f =
+        go : (m : Result Region Refusal) → master i ≡ m → (edit_on i m call).answer ≡ Err x → Says x
+        go (Ok h) q f =
             let p = (master_read i h q).1 in
-            let w : Read h ≡ Read (g i) = sym q ∙ p in
+            let w : Ok h ≡ Ok (g i) = sym q ∙ p in
             let z : h ≡ g i = cc in
             by p (v i) refl (rw (z, is) at f)
-        go (Refused y) q f = same y f (region_refusal y q)
+        go (Err y) q f = same x y f (region_refusal y q)
 
   module _ (name : List ℕ) where
     abbrev L : List Entry
@@ -357,17 +337,17 @@ module _ (i : List ℕ) where
     abbrev slot : Option EntrySlot
     slot = slot_of (length (s i)) name L
 
-    pub add_refusal : (kind : ℕ) (content : List ℕ) (x : Refusal) → (image_add i name kind content).answer ≡ EditRefused x → Says x
+    pub add_refusal : (kind : ℕ) (content : List ℕ) (x : Refusal) → (image_add i name kind content).answer ≡ Err x → Says x
     unfolding add
     add_refusal kind content =
         edit_refusal (λ h. add_in i h name kind content) (add_after_check component_limit (s i) (a i) name (span_bytes name kind content) L) refl
         (add_numbers component_limit (s i) (a i) name (span_bytes name kind content) L)
 
-    pub replace_refusal : (content : List ℕ) (x : Refusal) → (image_replace i name content).answer ≡ EditRefused x → Says x
+    pub replace_refusal : (content : List ℕ) (x : Refusal) → (image_replace i name content).answer ≡ Err x → Says x
     unfolding replace
     replace_refusal content = edit_refusal (λ h. replace_in i h name content) (replace_after_check (a i) name content slot) refl
         (replace_numbers (a i) (length (s i)) name content L)
 
-    pub remove_refusal : (x : Refusal) → (image_remove i name).answer ≡ EditRefused x → Says x
+    pub remove_refusal : (x : Refusal) → (image_remove i name).answer ≡ Err x → Says x
     unfolding remove
     remove_refusal = edit_refusal (λ h. remove_in i h name) (remove_after_check slot) refl (remove_numbers (length (s i)) name L)

@@ -1,5 +1,6 @@
 -- "Edits write the sum" (document 02, request 5), for a whole image: what add and replace have written states the sum of its bytes, no bit of which is
 -- lost, and which is never 0.
+use Rattle.std.specs.Prelude.{Ok}
 use Prim.Native.Nat.{ℕ, ◌+◌, ◌^◌, ◌≤◌, ◌<◌}
 use native.Mathlib.Omega.{arith}
 use mathlib.Core.Path.{◌≡◌, sym, ap, ◌∙◌}
@@ -15,7 +16,6 @@ use Rattle.master_header.proofs.Facts.{known}
 use Rattle.edit_rules.specs.Edit.{offset_for, span_bytes, AllBytes, BytesAt}
 use Rattle.edit_rules.proofs.Written.{length_span}
 use Rattle.edit_rules.proofs.Sums.{sum_exact}
-use Rattle.cbfs_types.specs.declared.Edited.TheVariants.{Done}
 use Rattle.image_edit.specs.ImageEdit.{image_add, image_replace}
 use Rattle.image_claims.specs.EditsDone.{AddDone, ReplaceDone, StatesSum}
 use Rattle.image_claims.proofs.Edits.{add_done_image, replace_done_image}
@@ -38,14 +38,14 @@ states i p name kind content l bn bc put =
     record { exact = same ∙ x.0 ∙ sym sum ∙ ap (sum_of (drop p i)) n; stated = omega (arith, same, x.1) }
 
 pub add_states : (i name : List ℕ) (kind : ℕ) (content : List ℕ) (p : ℕ) → kind < 256 ^ 4 → AllBytes name → AllBytes content
-    → (image_add i name kind content).answer ≡ Done p → StatesSum (image_add i name kind content).image p (offset_for name + length content)
+    → (image_add i name kind content).answer ≡ Ok p → StatesSum (image_add i name kind content).image p (offset_for name + length content)
 add_states i name kind content p typed bn bc e = let (g, a, d) = add_done_image i name kind content p typed e in go g d
   where
     go : (g : Region) → AddDone i g name kind content p (image_add i name kind content).image
         → StatesSum (image_add i name kind content).image p (offset_for name + length content)
     go g d = states (image_add i name kind content).image p name kind content (known _ g d.leaves.read).short bn bc d.written
 
-pub replace_states : (i name content : List ℕ) (p : ℕ) → AllBytes i → AllBytes name → AllBytes content → (image_replace i name content).answer ≡ Done p
+pub replace_states : (i name content : List ℕ) (p : ℕ) → AllBytes i → AllBytes name → AllBytes content → (image_replace i name content).answer ≡ Ok p
     → StatesSum (image_replace i name content).image p (offset_for name + length content)
 replace_states i name content p bs bn bc e = let (g, a, d) = replace_done_image i name content p bs e in go g d
   where

@@ -1,4 +1,6 @@
 -- What is proved of whole images, over the definitions that the contracts of the public calls cite.
+use Rattle.std.specs.Prelude.{Result, Ok}
+use Rattle.cbfs_types.specs.declared.Refusal.{Refusal}
 use Prim.Native.Nat.{ℕ, ◌+◌, ◌-◌, ◌*◌, ◌%◌, ◌^◌, ◌≤◌, ◌<◌}
 use native.Mathlib.Nat.{mul-mod_left, add-sub_cancel_left}
 use native.Mathlib.Omega.{arith}
@@ -16,30 +18,27 @@ use Rattle.walk.proofs.Members.{Given, given}
 use Rattle.walk.proofs.Rounding.{rounded}
 use Rattle.walk_lookup.specs.Lookup.{LookupResult, lookup_refused, lookup_gives, lookup_of, FirstBearer, OnlyBearer}
 use Rattle.walk_lookup.proofs.Bearers.{first_bearer, only_bearer}
-use Rattle.region.specs.Region.{region_bytes}
+use Rattle.region.specs.Region.{region_bytes, and_then}
 use Rattle.cbfs_types.specs.declared.Region.{Region}
 use Rattle.master_header.specs.Master.{master}
-use Rattle.cbfs_types.specs.declared.Master.{Master}
-use Rattle.cbfs_types.specs.declared.Master.TheVariants.{Read}
 use Rattle.master_header.proofs.Facts.{Known, known, align_power}
 use Rattle.edit_rules.specs.Table.{UnfitName}
 use Rattle.edit_rules.proofs.Exactly.{name_words}
 use Rattle.region_read.specs.RegionRead.{step_in, is_step_start, taken_in, find_answer_in, from_place, Walked}
-use Rattle.cbfs_types.specs.declared.Found.TheVariants.{At}
 use Rattle.region_read.proofs.Numbers as Numbers
 use Rattle.region_read.proofs.Listing as Listing
-use Rattle.image_walk.specs.ImageWalk.{step_on, image_step, plain_step, guarded_step}
+use Rattle.image_walk.specs.ImageWalk.{image_step, plain_step, guarded_step}
 use Rattle.image_find.specs.ImageFind.{image_find, plain_find, plain_content, guarded_find, guarded_content, image_content}
 use Rattle.image_claims.specs.Corruption.{placed, region_listing, entries, PartsAt}
 use Rattle.image_claims.proofs.Images.{bytes_length, through}
 
 -- An image i that is read, and its region g.
-module _ (i : List ℕ) (g : Region) (read : master i ≡ Read g) where
+module _ (i : List ℕ) (g : Region) (read : master i ≡ Ok g) where
   facts : Known i g
   facts = known i g read
 
   listing_is_steps : (w : Bool) → Walked (image_step w i) g.start (map (taken_in i g) (region_listing w i g))
-  listing_is_steps w = subst (λ (m : Master). Walked (λ n. step_on m (λ h. step_in w i h n)) g.start (map (taken_in i g) (region_listing w i g))) (sym read)
+  listing_is_steps w = subst (λ (m : Result Region Refusal). Walked (λ n. and_then m (λ h. step_in w i h n)) g.start (map (taken_in i g) (region_listing w i g))) (sym read)
       (Listing.listing_walked w i g (omega (arith, facts.least)) facts.forward facts.inside)
 
   -- The plain listing is the plain steps from offset to none left, each next one from the number that the last one gave.
@@ -51,23 +50,23 @@ module _ (i : List ℕ) (g : Region) (read : master i ≡ Read g) where
   guarded_listing_is_steps = listing_is_steps true
 
   -- What a lookup found is a component of its listing, its place counted from the image's start, and its content.
-  pub found_entry : (w : Bool) (name : List ℕ) (t : Taken) → image_find w i name ≡ At t
+  pub found_entry : (w : Bool) (name : List ℕ) (t : Taken) → image_find w i name ≡ Ok t
       → (e : Entry) × (lookup_of w (region_bytes i g) g.align name ≡ lookup_gives e) × (taken_in i g e ≡ t) × (image_content w i name ≡ e.component.content)
   found_entry w name t f = go (lookup_of w (region_bytes i g) g.align name) refl (rw read at f)
     where
-      go : (o : LookupResult) → lookup_of w (region_bytes i g) g.align name ≡ o → find_answer_in i g o ≡ At t
+      go : (o : LookupResult) → lookup_of w (region_bytes i g) g.align name ≡ o → find_answer_in i g o ≡ Ok t
           → (e : Entry) × (lookup_of w (region_bytes i g) g.align name ≡ lookup_gives e) × (taken_in i g e ≡ t) × (image_content w i name ≡ e.component.content)
       go (lookup_refused n) q f' = let z : ◌≡◌ {A = ℕ} 0 1 = cc in absurd (omega arith)
       go (lookup_gives e) q f' = (e, q, (cc), rw (read, q))
 
   -- The plain lookup gives the first bearer in the plain listing.
-  pub plain_lookup_gives_first : (name : List ℕ) (t : Taken) → plain_find i name ≡ At t
+  pub plain_lookup_gives_first : (name : List ℕ) (t : Taken) → plain_find i name ≡ Ok t
       → (e : Entry) × FirstBearer name (plain_listing (region_bytes i g) g.align) e × (taken_in i g e ≡ t) × (plain_content i name ≡ e.component.content)
   plain_lookup_gives_first name t f = let (e, q, u, c) = found_entry false name t f in
       (e, first_bearer name (plain_listing (region_bytes i g) g.align) e q, u, c)
 
   -- The guarded lookup gives the only bearer in the guarded listing.
-  pub guarded_lookup_gives_only : (name : List ℕ) (t : Taken) → guarded_find i name ≡ At t
+  pub guarded_lookup_gives_only : (name : List ℕ) (t : Taken) → guarded_find i name ≡ Ok t
       → (e : Entry) × OnlyBearer name (guarded_listing (region_bytes i g) g.align) e × (taken_in i g e ≡ t) × (guarded_content i name ≡ e.component.content)
   guarded_lookup_gives_only name t f = let (e, q, u, c) = found_entry true name t f in
       (e, only_bearer name (guarded_listing (region_bytes i g) g.align) e q, u, c)

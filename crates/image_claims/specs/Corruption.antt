@@ -1,5 +1,5 @@
 -- Demand 3 of the order, for a whole image i whose region is g: what its sentences say, over the definitions that the public calls' contracts cite.
-use Rattle.std.specs.Prelude.{ℕ, ◌+◌, ◌-◌, ◌≤◌, ◌<◌, ◌≡◌, Bool, true, false, not, ◌&&◌, length, get_or, leb, ltb}
+use Rattle.std.specs.Prelude.{Ok, Err, ℕ, ◌+◌, ◌-◌, ◌≤◌, ◌<◌, ◌≡◌, Bool, true, false, not, ◌&&◌, length, get_or, leb, ltb}
 use mathlib.Core.List.{List, [], map, Memᴰ}
 use Rattle.bytes_read.specs.Lists.{any, filter}
 use Rattle.component.specs.Component.{header_of}
@@ -7,19 +7,17 @@ use Rattle.walk.specs.Walk.{Entry, entry_end, pick_of, listing, guarded_listing}
 use Rattle.cbfs_types.specs.declared.Taken.{Taken}
 use Rattle.walk_lookup.specs.Lookup.{bears}
 use Rattle.master_header.specs.Master.{master}
-use Rattle.cbfs_types.specs.declared.Master.TheVariants.{Read}
 use Rattle.strict_rules.specs.Strict.{component_limit, AcceptedUpTo}
 use Rattle.strict_rules.specs.Slots.{in_slots}
 use Rattle.region.specs.Region.{region_bytes, refusal_by}
 use Rattle.cbfs_types.specs.declared.Region.{Region}
 use Rattle.region_read.specs.RegionRead.{taken_in, Walked}
-use Rattle.cbfs_types.specs.declared.Found.TheVariants.{At, Refused}
 use Rattle.image_walk.specs.ImageWalk.{guarded_step}
 use Rattle.image_find.specs.ImageFind.{image_find, guarded_find, image_content, name_at, content_at}
 
 -- "Take any image that the strict check accepts": its region, and that the check accepts it, where at most that many components are allowed.
 pub record AcceptedImageUpTo (most : ℕ) (i : List ℕ) (g : Region) : Type 0 where
-  pub read : master i ≡ Read g
+  pub read : master i ≡ Ok g
   pub acc : AcceptedUpTo most (region_bytes i g) g.align
 
 abbrev pub AcceptedImage : List ℕ → Region → Type 0
@@ -43,14 +41,14 @@ guarded_entries i g = entries true i g
 -- The lookup of a component's name gives that component: its place, its type and lengths, and its content.
 pub record LookupGives (w : Bool) (i : List ℕ) (t : Entry) : Type 0 where
   pub taken : Taken
-  pub found : image_find w i t.component.name ≡ At taken
+  pub found : image_find w i t.component.name ≡ Ok taken
   pub place : taken.place ≡ t.place
   pub header : taken.header ≡ header_of t.component
   pub content : image_content w i t.component.name ≡ t.component.content
 
 -- The lookup refuses: no component, and an empty part.
 abbrev pub LookupRefuses : Bool → List ℕ → List ℕ → ℕ → Type 0
-LookupRefuses w i name n = (image_find w i name ≡ Refused (refusal_by n)) × (image_content w i name ≡ [])
+LookupRefuses w i name n = (image_find w i name ≡ Err (refusal_by n)) × (image_content w i name ≡ [])
 
 -- A step reports numbers alone: name_at and content_at give the name and the content of the component at its place.
 abbrev pub PartsAt : List ℕ → Entry → Type 0
@@ -75,7 +73,7 @@ named_from_slots set i g i' name = any (bears name) (filter (listed_from_image_s
 
 pub record CorruptionContainedInImage (set : ℕ → Bool) (i : List ℕ) (g : Region) (i' : List ℕ) : Type 0 where
   -- The region of the corrupted image is that of the accepted one: "no slot holds a byte of the master header or of P" (document 01).
-  pub read : master i' ≡ Read g
+  pub read : master i' ≡ Ok g
   -- All guarded steps on the corrupted image count, from offset to none left; "none of them is refused" (document 01).
   pub steps : Walked (guarded_step i') g.start (map (taken_in i' g) (guarded_listing (region_bytes i' g) g.align))
   pub parts : (t : Entry) → Memᴰ t (guarded_entries i' g) → PartsAt i' t

@@ -1,47 +1,21 @@
 -- Document 01's table of refusals for the calls over a whole image i, in the paper's words and numbers and in the order of each call.
 -- Rows 1 to 8 stand in crates/master_header/specs/Table.antt, 12, 13 and 11 in crates/strict_rules/specs/Table.antt, those of edits in
 -- crates/edit_rules/specs/Table.antt.
-use Rattle.std.specs.Prelude.{ℕ, ◌+◌, ◌%◌, ◌≤◌, ◌<◌, ◌≡◌, List, [], ◌∷◌, ◌++◌, Bool, true, false, ◌⊎◌}
+use Rattle.std.specs.Prelude.{Result, Ok, Err, ℕ, ◌+◌, ◌%◌, ◌≤◌, ◌<◌, ◌≡◌, List, [], ◌∷◌, ◌++◌, Bool, true, false, ◌⊎◌}
 use Rattle.region.specs.Table.{Row, row}
 use Rattle.region.specs.Region.{region_bytes}
 use Rattle.cbfs_types.specs.declared.Refusal.{Refusal}
 use Rattle.master_header.specs.Table.{align, region, master_rows}
-use Rattle.cbfs_types.specs.declared.Master.{Master}
-use Rattle.cbfs_types.specs.declared.Master.TheVariants.{Read}
-use Rattle.cbfs_types.specs.declared.Master.TheVariants.{Refused as MasterRefused}
 use Rattle.walk.specs.Walk.{Entry}
 use Rattle.walk_lookup.specs.Lookup.{NoBearer, TwoBearers}
 use Rattle.strict_rules.specs.Table.{Untaken, check_rows}
 use Rattle.edit_rules.specs.Table.{add_rows, replace_rows, remove_rows}
-use Rattle.cbfs_types.specs.declared.Edited.{Edited}
-use Rattle.cbfs_types.specs.declared.Edited.TheVariants.{Done}
-use Rattle.cbfs_types.specs.declared.Edited.TheVariants.{Refused as EditRefused}
-use Rattle.cbfs_types.specs.declared.Step.{Step}
-use Rattle.cbfs_types.specs.declared.Step.TheVariants.{Took, NoneLeft}
-use Rattle.cbfs_types.specs.declared.Step.TheVariants.{Refused as StepRefused}
-use Rattle.cbfs_types.specs.declared.Found.{Found}
-use Rattle.cbfs_types.specs.declared.Found.TheVariants.{At}
-use Rattle.cbfs_types.specs.declared.Found.TheVariants.{Refused as FoundRefused}
 use Rattle.image_claims.specs.Corruption.{region_listing}
 
 -- The number of an answer, 0 where it is not refused.
-
-abbrev pub master_number : Master → ℕ
-master_number (Read g) = 0
-master_number (MasterRefused x) = x.number
-
-abbrev pub step_number : Step → ℕ
-step_number (Took t) = 0
-step_number NoneLeft = 0
-step_number (StepRefused x) = x.number
-
-abbrev pub find_number : Found → ℕ
-find_number (At t) = 0
-find_number (FoundRefused x) = x.number
-
-abbrev pub edit_number : Edited → ℕ
-edit_number (Done p) = 0
-edit_number (EditRefused x) = x.number
+abbrev pub answer_number : {A : Type 0} → Result A Refusal → ℕ
+answer_number (Ok x) = 0
+answer_number (Err r) = r.number
 
 module _ (i : List ℕ) where
   -- The bytes of the image's region, and the listing of a walk over them, the guarded one where w is true.

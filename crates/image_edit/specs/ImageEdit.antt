@@ -1,16 +1,14 @@
 -- The edits of a whole image i: the master header, refusals 1 to 8, and then the edit of its region.
-use Rattle.std.specs.Prelude.{ℕ, List}
+use Rattle.std.specs.Prelude.{Result, Ok, Err, ℕ, List}
+use Rattle.cbfs_types.specs.declared.Refusal.{Refusal}
 use Rattle.cbfs_types.specs.declared.Region.{Region}
 use Rattle.master_header.specs.Master.{master}
-use Rattle.cbfs_types.specs.declared.Master.{Master}
-use Rattle.cbfs_types.specs.declared.Master.TheVariants.{Read, Refused}
 use Rattle.edit_write.specs.EditWrite.{EditResult, add_in, replace_in, remove_in, add_in_up_to, replace_in_up_to, remove_in_up_to}
-use Rattle.cbfs_types.specs.declared.Edited.TheVariants.{Refused as EditRefused}
 
 -- A refused edit changes no byte.
-abbrev pub edit_on : List ℕ → Master → (Region → EditResult) → EditResult
-edit_on i (Read g) call = call g
-edit_on i (Refused r) call = record { answer = EditRefused r; image = i }
+abbrev pub edit_on : List ℕ → Result Region Refusal → (Region → EditResult) → EditResult
+edit_on i (Ok g) call = call g
+edit_on i (Err r) call = record { answer = Err r; image = i }
 
 -- The edits, each with its answer and the image afterwards: refusals 1 to 8, 12, 13, 11, then 14, 15, 13, 16, 17 (add), 10, 16, 17 (replace) or 10 (remove).
 

@@ -1,32 +1,26 @@
 -- What is found in a whole image i, by a name or at a place: the master header, refusals 1 to 8, and then the call over its region.
-use Rattle.std.specs.Prelude.{ℕ, Bool, true, false, List, []}
+use Rattle.std.specs.Prelude.{Result, Ok, Err, ℕ, Bool, true, false, List, []}
+use Rattle.cbfs_types.specs.declared.Refusal.{Refusal}
+use Rattle.cbfs_types.specs.declared.Taken.{Taken}
 use Rattle.cbfs_types.specs.declared.Region.{Region}
+use Rattle.region.specs.Region.{and_then}
 use Rattle.master_header.specs.Master.{master}
-use Rattle.cbfs_types.specs.declared.Master.{Master}
-use Rattle.cbfs_types.specs.declared.Master.TheVariants.{Read, Refused}
 use Rattle.region_read.specs.RegionRead.{find_in, content_found_in, name_at_in, content_at_in}
-use Rattle.cbfs_types.specs.declared.Found.{Found}
-use Rattle.cbfs_types.specs.declared.Found.TheVariants.{Refused as FoundRefused}
 
--- The call over the region, or the master header's refusal.
-
-abbrev pub find_on : Master → (Region → Found) → Found
-find_on (Read g) call = call g
-find_on (Refused r) call = FoundRefused r
-
-abbrev pub part_on : Master → (Region → List ℕ) → List ℕ
-part_on (Read g) call = call g
-part_on (Refused r) call = []
+-- The part that the call over the region gives; empty where the master header refuses.
+abbrev pub part_on : Result Region Refusal → (Region → List ℕ) → List ℕ
+part_on (Ok g) call = call g
+part_on (Err r) call = []
 
 -- A lookup: refusals 1 to 8, then 10, and 11 for the guarded one; and the content that it gives, empty on a refusal. w is true for the guarded walk.
 
-abbrev pub image_find : Bool → List ℕ → List ℕ → Found
-image_find w i name = find_on (master i) (λ g. find_in w i g name)
+abbrev pub image_find : Bool → List ℕ → List ℕ → Result Taken Refusal
+image_find w i name = and_then (master i) (λ g. find_in w i g name)
 
-abbrev pub plain_find : List ℕ → List ℕ → Found
+abbrev pub plain_find : List ℕ → List ℕ → Result Taken Refusal
 plain_find i name = image_find false i name
 
-abbrev pub guarded_find : List ℕ → List ℕ → Found
+abbrev pub guarded_find : List ℕ → List ℕ → Result Taken Refusal
 guarded_find i name = image_find true i name
 
 abbrev pub image_content : Bool → List ℕ → List ℕ → List ℕ

@@ -5,21 +5,18 @@
 ghost use Rattle.std.specs.Prelude.{◌≡◌};
 ghost use Rattle.image_find.specs.ImageFind.{image_find, plain_find, guarded_find, image_content, plain_content, guarded_content, name_at, content_at};
 
-use cbfs_types::{Found, Master};
+use cbfs_types::{Refusal, Taken};
 
-// The lookup of either walk.
-fn image_find(guarded: bool, image: &[u8], name: &[u8]) -> Found
+// The lookup of either walk. The public calls stay two, plain and guarded, as README names them; the theorems speak of both by this flag.
+fn image_find(guarded: bool, image: &[u8], name: &[u8]) -> Result<Taken, Refusal>
     ensures { result ≡ image_find guarded image.now name.now }
 {
-    let m = master_header::read(&image[0..]);
-    match m {
-        Master::Read(g) => region_read::find_in(guarded, image, g, name),
-        Master::Refused(r) => Found::Refused(r),
-    }
+    let region = master_header::read(&image[0..])?;
+    region_read::find_in(guarded, image, region, name)
 }
 
 // The first bearer of the name in the plain listing, or refusals 1 to 8 and 10.
-pub fn plain_find(image: &[u8], name: &[u8]) -> Found
+pub fn plain_find(image: &[u8], name: &[u8]) -> Result<Taken, Refusal>
     ensures value { result ≡ plain_find image.now name.now }
     ensures kept { (image.exit.now ≡ image.entry.now) × (name.exit.now ≡ name.entry.now) }
 {
@@ -27,7 +24,7 @@ pub fn plain_find(image: &[u8], name: &[u8]) -> Found
 }
 
 // The only bearer of the name in the guarded listing, or refusals 1 to 8, 10 and 11.
-pub fn guarded_find(image: &[u8], name: &[u8]) -> Found
+pub fn guarded_find(image: &[u8], name: &[u8]) -> Result<Taken, Refusal>
     ensures value { result ≡ guarded_find image.now name.now }
     ensures kept { (image.exit.now ≡ image.entry.now) × (name.exit.now ≡ name.entry.now) }
 {
@@ -38,10 +35,9 @@ pub fn guarded_find(image: &[u8], name: &[u8]) -> Found
 fn image_content<'a, 'b>(guarded: bool, image: &'a [u8], name: &'b [u8]) -> &'a [u8]
     ensures { result.now ≡ image_content guarded image.now name.now }
 {
-    let m = master_header::read(&image[0..]);
-    match m {
-        Master::Read(g) => region_read::content_found_in(guarded, image, g, name),
-        Master::Refused(_) => &image[0..0],
+    match master_header::read(&image[0..]) {
+        Ok(region) => region_read::content_found_in(guarded, image, region, name),
+        Err(_) => &image[0..0],
     }
 }
 
@@ -66,10 +62,9 @@ pub fn name_at(image: &[u8], place: usize) -> &[u8]
     ensures result_value { result.now ≡ name_at image.now place }
     ensures kept { image.exit.now ≡ image.entry.now }
 {
-    let m = master_header::read(image);
-    match m {
-        Master::Read(g) => region_read::name_at_in(image, g, place),
-        Master::Refused(_) => &image[0..0],
+    match master_header::read(image) {
+        Ok(region) => region_read::name_at_in(image, region, place),
+        Err(_) => &image[0..0],
     }
 }
 
@@ -78,9 +73,8 @@ pub fn content_at(image: &[u8], place: usize) -> &[u8]
     ensures result_value { result.now ≡ content_at image.now place }
     ensures kept { image.exit.now ≡ image.entry.now }
 {
-    let m = master_header::read(image);
-    match m {
-        Master::Read(g) => region_read::content_at_in(image, g, place),
-        Master::Refused(_) => &image[0..0],
+    match master_header::read(image) {
+        Ok(region) => region_read::content_at_in(image, region, place),
+        Err(_) => &image[0..0],
     }
 }

@@ -7,7 +7,7 @@ use Rattle.bytes_read.specs.Number.{be, le, be_bytes, le_bytes}
 use Rattle.bytes_read.specs.Bytes.{part_of, splice}
 use Rattle.bench_image.specs.BenchImage.{larchive, cal, log, head, slot0, slot192, region, image}
 use Rattle.component.specs.Component.{magic}
-use Rattle.bytes_read.specs.Lists.{any, filter, padded, no_two}
+use Rattle.bytes_read.specs.Lists.{filter, padded, no_two}
 use Rattle.walk.specs.Walk.{place_count_below, places, magic_at, magic_inside, plain_pick, unless, guarded_pick, or_else, first, step, next_place, follow, steps}
 use Rattle.walk.specs.Walk.{listing_from}
 use Rattle.region.specs.Refusals.{length_fits}
@@ -24,7 +24,7 @@ use Rattle.edit_rules.specs.Edit.{add_after_check, replace_after_check, carried_
 use Rattle.load_segment.specs.LoadSegment.{source_fits, len_fits, target_fits, load_tests, ends_before, disjoint_targets}
 use Rattle.load_stage.specs.Stage.{stage_tests, stage_answer, stage_of, stage_in}
 use Rattle.load_payload.specs.Payload.{segment_at, bss_tests, params_tests, type_tests, record_tests, disjoint_from_all, record_list_tests, segments_from, payload_tests}
-use Rattle.load_payload.specs.Payload.{payload_plan, refused_payload, payload_answer, payload_of, payload_in}
+use Rattle.load_payload.specs.Payload.{payload_plan, payload_answer, payload_of, payload_in}
 use Rattle.image_starred.specs.Starred.{All, nothing_more, ◌and◌, a_500, taken, table_type, magic_from, addresses, aligns, spans, offsets, overrun, twice}
 use Rattle.image_starred.specs.Starred.{replacing, growing, magic_in, boot, plans, starred}
 use Rattle.component.proofs.Opened.{judge_definitions}
@@ -33,7 +33,7 @@ use Rattle.component.proofs.Opened.{judge_definitions}
 
 unfoldable reading : ℕ
 unfolding judge_definitions larchive cal head slot0 slot192 region image le_bytes ones ones_in le length_fits header_at address_fits bootblock_fits align_fits
-    offset_fits master_tests refusal_number master region_bytes part_of is_step_start step_by any filter place_count_below places magic_at magic_inside plain_pick
+    offset_fits master_tests refusal_number master region_bytes part_of is_step_start step_by filter place_count_below places magic_at magic_inside plain_pick
     guarded_pick unless or_else first step
     next_place follow steps listing_from bears first_or_refused only_or_refused from_place
 reading = 0
@@ -45,7 +45,7 @@ editing = 0
 
 unfoldable planning : ℕ
 unfolding boot source_fits len_fits target_fits load_tests stage_tests stage_answer stage_of stage_in segment_at bss_tests params_tests type_tests record_tests ends_before
-    disjoint_targets disjoint_from_all record_list_tests segments_from payload_tests padded payload_plan refused_payload payload_answer payload_of payload_in
+    disjoint_targets disjoint_from_all record_list_tests segments_from payload_tests padded payload_plan payload_answer payload_of payload_in
 planning = 0
 
 addresses_hold : All addresses

@@ -1,23 +1,16 @@
 -- Document 01's starred cases ("Bench image A"), in its order: each line is a call's definition at its arguments, and the answer that the paper gives.
-use Rattle.std.specs.Prelude.{ℕ, ◌-◌, ◌^◌, ◌≡◌, List, [], ◌∷◌, ◌++◌, replicate}
+use Rattle.std.specs.Prelude.{Some, Ok, Err, ℕ, ◌-◌, ◌^◌, ◌≡◌, List, [], ◌∷◌, ◌++◌, replicate}
 use Rattle.bytes_read.specs.Number.{be_bytes, le_bytes}
 use Rattle.bench_image.specs.BenchImage.{larchive, cal, log, head, image, region_a, region500, region_twice, image_a}
 use Rattle.cbfs_types.specs.declared.Taken.{Taken}
 use Rattle.region.specs.Region.{refusal_by}
 use Rattle.cbfs_types.specs.declared.Region.{Region}
 use Rattle.master_header.specs.Master.{master}
-use Rattle.cbfs_types.specs.declared.Master.TheVariants.{Read, Refused}
 use Rattle.edit_rules.specs.Edit.{span_bytes}
-use Rattle.load_stage.specs.Stage.{refused_stage}
-use Rattle.load_payload.specs.Payload.{code_type, bss_type, entry_type, unused_segment, refused_payload}
+use Rattle.load_payload.specs.Payload.{code_type, bss_type, entry_type, unused_segment}
 use Rattle.cbfs_types.specs.declared.StagePlan.{StagePlan}
 use Rattle.cbfs_types.specs.declared.PayloadPlan.{PayloadPlan}
 use Rattle.region_read.specs.RegionRead.{Walked}
-use Rattle.cbfs_types.specs.declared.Step.TheVariants.{Took}
-use Rattle.cbfs_types.specs.declared.Found.TheVariants.{At}
-use Rattle.cbfs_types.specs.declared.Found.TheVariants.{Refused as FoundRefused}
-use Rattle.cbfs_types.specs.declared.Edited.TheVariants.{Done}
-use Rattle.cbfs_types.specs.declared.Edited.TheVariants.{Refused as EditRefused}
 use Rattle.image_walk.specs.ImageWalk.{plain_step, guarded_step}
 use Rattle.image_find.specs.ImageFind.{plain_find, guarded_find, name_at}
 use Rattle.image_edit.specs.ImageEdit.{image_add, image_replace}
@@ -82,8 +75,6 @@ payload_bytes b =
 -- Its plan.
 abbrev pub expected_payload_plan : ℕ → PayloadPlan
 expected_payload_plan b = record {
-  number = 0;
-  place = 0;
   count = 3;
   segments = record { kind = code_type; compression = 0; source = 124; load = 0x1000; len = 4; memlen = 0x100 }
       ∷ record { kind = bss_type; compression = 0; source = 0; load = b; len = 0; memlen = 16 }
@@ -97,7 +88,7 @@ abbrev pub stage_bytes : ℕ → List ℕ
 stage_bytes m = le_bytes 4 0 ++ (le_bytes 8 (2 ^ 64 - 16) ++ (le_bytes 8 (2 ^ 64 - 16) ++ (le_bytes 4 4 ++ (le_bytes 4 m ++ replicate 4 0))))
 
 abbrev pub expected_stage_plan : ℕ → StagePlan
-expected_stage_plan m = record { number = 0; place = 0; compression = 0; entry = 2 ^ 64 - 16; load = 2 ^ 64 - 16; source = 68; len = 4; memlen = m }
+expected_stage_plan m = record { compression = 0; entry = 2 ^ 64 - 16; load = 2 ^ 64 - 16; source = 68; len = 4; memlen = m }
 
 -- LARCHIVE from byte n of the content on.
 unfoldable pub magic_from : ℕ → List ℕ
@@ -112,19 +103,19 @@ pub data All : List (Type 0) → Type 1 where
 -- ★ P 0xFFFFFFDC read, 0xFFFFFFDD: 2. ★ bootblocksize 36 read, 35: 6.
 abbrev pub addresses : List (Type 0)
 addresses =
-    (master (a_address 0xFFFFFFDC) ≡ Read (region_bounds 0 3072 64))
-    ∷ (master (a_address 0xFFFFFFDD) ≡ Refused (refusal_by 2))
-    ∷ (master (a_bootblock 36) ≡ Read (region_bounds 0 4060 64))
-    ∷ (master (a_bootblock 35) ≡ Refused (refusal_by 6))
+    (master (a_address 0xFFFFFFDC) ≡ Ok (region_bounds 0 3072 64))
+    ∷ (master (a_address 0xFFFFFFDD) ≡ Err (refusal_by 2))
+    ∷ (master (a_bootblock 36) ≡ Ok (region_bounds 0 4060 64))
+    ∷ (master (a_bootblock 35) ≡ Err (refusal_by 6))
     ∷ []
 
 -- ★ align 16 read; 8, 48 and 131,072: 7. Empty region: an empty listing.
 abbrev pub aligns : List (Type 0)
 aligns =
-    (master (a_align 16) ≡ Read (region_bounds 0 3072 16))
-    ∷ (master (a_align 8) ≡ Refused (refusal_by 7))
-    ∷ (master (a_align 48) ≡ Refused (refusal_by 7))
-    ∷ (master (a_align 131072) ≡ Refused (refusal_by 7))
+    (master (a_align 16) ≡ Ok (region_bounds 0 3072 16))
+    ∷ (master (a_align 8) ≡ Err (refusal_by 7))
+    ∷ (master (a_align 48) ≡ Err (refusal_by 7))
+    ∷ (master (a_align 131072) ≡ Err (refusal_by 7))
     ∷ Walked (plain_step (a_offset 3072)) 3072 []
     ∷ Walked (guarded_step (a_offset 3072)) 3072 []
     ∷ []
@@ -132,16 +123,16 @@ aligns =
 -- ★ Span of 1052 at 0 with align 1024: next place 2048.
 abbrev pub spans : List (Type 0)
 spans =
-    (plain_step wide_image 0 ≡ Took (taken 0 40 1012 table_type 0 6 2048))
-    ∷ (guarded_step wide_image 0 ≡ Took (taken 0 40 1012 table_type 0 6 2048))
+    (plain_step wide_image 0 ≡ Ok (Some (taken 0 40 1012 table_type 0 6 2048)))
+    ∷ (guarded_step wide_image 0 ≡ Ok (Some (taken 0 40 1012 table_type 0 6 2048)))
     ∷ []
 
 -- ★ Name of 15 bytes: offset 40; of 16: offset 56; of 255: 280. By request 5 what is added states its sum.
 abbrev pub offsets : List (Type 0)
 offsets =
-    (plain_find (image_add A (replicate 15 0x78) 0x50 []).image (replicate 15 0x78) ≡ At (taken 256 40 0 0x50 2510 15 320))
-    ∷ (plain_find (image_add A (replicate 16 0x78) 0x50 []).image (replicate 16 0x78) ≡ At (taken 256 56 0 0x50 2646 16 320))
-    ∷ (plain_find (image_add A (replicate 255 0x78) 0x50 []).image (replicate 255 0x78) ≡ At (taken 256 280 0 0x50 31295 255 576))
+    (plain_find (image_add A (replicate 15 0x78) 0x50 []).image (replicate 15 0x78) ≡ Ok (taken 256 40 0 0x50 2510 15 320))
+    ∷ (plain_find (image_add A (replicate 16 0x78) 0x50 []).image (replicate 16 0x78) ≡ Ok (taken 256 56 0 0x50 2646 16 320))
+    ∷ (plain_find (image_add A (replicate 255 0x78) 0x50 []).image (replicate 255 0x78) ≡ Ok (taken 256 280 0 0x50 31295 255 576))
     ∷ []
 
 -- ★ A with cal/12's len made 500: plain listing loses cal/13; guarded lists only cal/13, at 192.
@@ -155,38 +146,38 @@ overrun =
 -- ★ A with cal/12's name made cal/13: plain lookup gives place 0, guarded refuses 11.
 abbrev pub twice : List (Type 0)
 twice =
-    (plain_find a_twice (cal 0x33) ≡ At (taken 0 40 100 table_type 0 6 192))
-    ∷ (guarded_find a_twice (cal 0x33) ≡ FoundRefused (refusal_by 11))
+    (plain_find a_twice (cal 0x33) ≡ Ok (taken 0 40 100 table_type 0 6 192))
+    ∷ (guarded_find a_twice (cal 0x33) ≡ Err (refusal_by 11))
     ∷ []
 
 -- ★ Replace cal/12 by 152 bytes fits, 153: 17.
 abbrev pub replacing : List (Type 0)
 replacing =
-    ((image_replace A (cal 0x32) (replicate 152 0)).answer ≡ Done 0)
-    ∷ ((image_replace A (cal 0x32) (replicate 153 0)).answer ≡ EditRefused (refusal_by 17))
+    ((image_replace A (cal 0x32) (replicate 152 0)).answer ≡ Ok 0)
+    ∷ ((image_replace A (cal 0x32) (replicate 153 0)).answer ≡ Err (refusal_by 17))
     ∷ []
 
 -- ★ Add log of 2776 bytes goes to 256; 2777: 17.
 abbrev pub growing : List (Type 0)
 growing =
-    ((image_add A log 0x50 (replicate 2776 0)).answer ≡ Done 256)
-    ∷ ((image_add A log 0x50 (replicate 2777 0)).answer ≡ EditRefused (refusal_by 17))
+    ((image_add A log 0x50 (replicate 2776 0)).answer ≡ Ok 256)
+    ∷ ((image_add A log 0x50 (replicate 2777 0)).answer ≡ Err (refusal_by 17))
     ∷ []
 
 -- ★ Add log with LARCHIVE at content byte 24: 16; at byte 25 accepted.
 abbrev pub magic_in : List (Type 0)
 magic_in =
-    ((image_add A log 0x50 (magic_from 24)).answer ≡ EditRefused (refusal_by 16))
-    ∷ ((image_add A log 0x50 (magic_from 25)).answer ≡ Done 256)
+    ((image_add A log 0x50 (magic_from 24)).answer ≡ Err (refusal_by 16))
+    ∷ ((image_add A log 0x50 (magic_from 25)).answer ≡ Ok 256)
     ∷ []
 
 -- ★ CODE at 0x1000 for 0x100: BSS of 16 bytes at 0x1100 accepted, at 0x10FF: 26. Load 2^64 - 16 for 16 bytes accepted, for 17: 25.
 abbrev pub plans : List (Type 0)
 plans =
-    (image_payload (image_with_boot 0x20 (payload_bytes 0x1100)) boot ≡ expected_payload_plan 0x1100)
-    ∷ (image_payload (image_with_boot 0x20 (payload_bytes 0x10FF)) boot ≡ refused_payload (refusal_by 26))
-    ∷ (image_stage (image_with_boot 0x10 (stage_bytes 16)) boot ≡ expected_stage_plan 16)
-    ∷ (image_stage (image_with_boot 0x10 (stage_bytes 17)) boot ≡ refused_stage (refusal_by 25))
+    (image_payload (image_with_boot 0x20 (payload_bytes 0x1100)) boot ≡ Ok (expected_payload_plan 0x1100))
+    ∷ (image_payload (image_with_boot 0x20 (payload_bytes 0x10FF)) boot ≡ Err (refusal_by 26))
+    ∷ (image_stage (image_with_boot 0x10 (stage_bytes 16)) boot ≡ Ok (expected_stage_plan 16))
+    ∷ (image_stage (image_with_boot 0x10 (stage_bytes 17)) boot ≡ Err (refusal_by 25))
     ∷ []
 
 -- All of them, in the order of the paper.

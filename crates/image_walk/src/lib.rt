@@ -6,10 +6,10 @@ ghost use Rattle.std.specs.Prelude.{◌≡◌};
 ghost use Rattle.master_header.specs.Master.{master as master_of};
 ghost use Rattle.image_walk.specs.ImageWalk.{image_step, plain_step, guarded_step, strict_check};
 
-use cbfs_types::{Directory, Master, Step};
+use cbfs_types::{Directory, Refusal, Region, Taken};
 
 // The region that holds the image's components, or refusals 1 to 8.
-pub fn region(image: &[u8]) -> Master
+pub fn region(image: &[u8]) -> Result<Region, Refusal>
     ensures value { result ≡ master_of image.now }
     ensures kept { image.exit.now ≡ image.entry.now }
 {
@@ -17,18 +17,15 @@ pub fn region(image: &[u8]) -> Master
 }
 
 // A step of either walk. Here and in the crate `image_find` the image is passed as `&image[0..]` to avoid a store-forwarding stall (about 20 ns a call).
-fn image_step(guarded: bool, image: &[u8], from: usize) -> Step
+fn image_step(guarded: bool, image: &[u8], from: usize) -> Result<Option<Taken>, Refusal>
     ensures { result ≡ image_step guarded image.now from }
 {
-    let m = master_header::read(&image[0..]);
-    match m {
-        Master::Read(g) => region_read::step_in(guarded, image, g, from),
-        Master::Refused(r) => Step::Refused(r),
-    }
+    let region = master_header::read(&image[0..])?;
+    region_read::step_in(guarded, image, region, from)
 }
 
 // The first component that a plain walk begun at `from` takes, or refusals 1 to 9.
-pub fn plain_step(image: &[u8], from: usize) -> Step
+pub fn plain_step(image: &[u8], from: usize) -> Result<Option<Taken>, Refusal>
     ensures value { result ≡ plain_step image.now from }
     ensures kept { image.exit.now ≡ image.entry.now }
 {
@@ -36,21 +33,19 @@ pub fn plain_step(image: &[u8], from: usize) -> Step
 }
 
 // The first component that a guarded walk begun at `from` takes, or refusals 1 to 9.
-pub fn guarded_step(image: &[u8], from: usize) -> Step
+pub fn guarded_step(image: &[u8], from: usize) -> Result<Option<Taken>, Refusal>
     ensures value { result ≡ guarded_step image.now from }
     ensures kept { image.exit.now ≡ image.entry.now }
 {
     image_step(true, image, from)
 }
 
-// The strict check: the directory of the components, or refusals 1 to 8, 12, 13 and 11.
-pub fn strict_check(image: &[u8]) -> Directory
+// The strict check: the directory of the components, or refusals 1 to 8, 12, 13 and 11. Inlined for the stack, as what it calls.
+#[inline(always)]
+pub fn strict_check(image: &[u8]) -> Result<Directory, Refusal>
     ensures value { result ≡ strict_check image.now }
     ensures kept { image.exit.now ≡ image.entry.now }
 {
-    let m = master_header::read(image);
-    match m {
-        Master::Read(g) => strict_check::check(image, g),
-        Master::Refused(r) => strict_check::refused_directory(r.number, r.place),
-    }
+    let region = master_header::read(image)?;
+    strict_check::check(image, region)
 }

@@ -3,18 +3,18 @@ use Prim.Native.Nat.{ℕ, zero, suc, ◌+◌, ◌*◌, ◌^◌, ◌≤◌, ◌<�
 use native.Mathlib.Omega.{arith}
 use mathlib.Core.Path.{◌≡◌, refl, ap, subst, ◌∙◌}
 use mathlib.Core.Logic.{◌⊎◌, inl, inr}
-use mathlib.Core.Bool.{Bool, true, false, cond, false≢true, ◌||◌}
+use mathlib.Core.Bool.{Bool, true, false, cond, ◌||◌}
 use mathlib.Core.List.{List, [], ◌∷◌, ◌++◌}
 use lib.ListN.{length, get_or, length-append, get_or-append}
 use lib.Seq.{get_or-append_seam}
 use lib.Dec.{leb, eqb}
 use borrow.Author.Tests.{leb-true, eqb-true}
+use Rattle.bytes_read.proofs.Tested.{both_true}
 use Rattle.region.specs.Refusals.{Test, test, first_failed}
 use Rattle.load_segment.specs.LoadSegment.{load_tests, disjoint_targets, ends_before}
-use Rattle.load_payload.specs.Payload.{type_at, code_type, data_type, bss_type, params_type, entry_type, loaded_segment, bss_segment, params_segment, entry_segment}
-use Rattle.load_payload.specs.Payload.{unknown_segment}
-use Rattle.load_payload.specs.Payload.{segment_at, bss_tests, params_tests, type_tests, record_tests, disjoint_from_all, is_entry, record_list_tests, segments_from}
-use Rattle.load_payload.specs.Payload.{unused_segment}
+use Rattle.load_payload.specs.Payload.{type_at, code_type, data_type, bss_type, params_type, entry_type}
+use Rattle.load_payload.specs.Payload.{loaded_segment, bss_segment, params_segment, entry_segment, unknown_segment, unused_segment, segment_at}
+use Rattle.load_payload.specs.Payload.{bss_tests, params_tests, type_tests, record_tests, disjoint_from_all, is_entry, record_list_tests, segments_from}
 use Rattle.load_payload.specs.Accepted.{Loaded, HasSource, HasTarget, Target}
 use Rattle.cbfs_types.specs.declared.Segment.{Segment}
 use Rattle.region.proofs.Orders.{all_passed, first_both}
@@ -71,7 +71,8 @@ module _ (at l : ℕ) (x : Segment) (e : first_failed (type_tests at l x) ≡ 0)
 
 module _ (s : List ℕ) (o p : ℕ) where
   -- What holds of each type's segment.
-  by_type_lem : (P : Segment → Type 0) → ((type_at s p ≡ data_type) ⊎ (type_at s p ≡ code_type) → P (loaded_segment s o p)) → (type_at s p ≡ bss_type → P (bss_segment s p))
+  by_type_lem : (P : Segment → Type 0) → ((type_at s p ≡ data_type) ⊎ (type_at s p ≡ code_type) → P (loaded_segment s o p))
+      → (type_at s p ≡ bss_type → P (bss_segment s p))
       → (type_at s p ≡ params_type → P (params_segment s o p))
       → (type_at s p ≡ entry_type → P (entry_segment s p)) → P (unknown_segment s p) → P (segment_at s o p)
   unfolding segment_at
@@ -79,8 +80,8 @@ module _ (s : List ℕ) (o p : ℕ) where
       go (eqb (type_at s p) code_type) refl (eqb (type_at s p) data_type) refl (eqb (type_at s p) bss_type) refl (eqb (type_at s p) params_type) refl
       (eqb (type_at s p) entry_type) refl
     where
-      go : (a : Bool) → eqb (type_at s p) code_type ≡ a → (b : Bool) → eqb (type_at s p) data_type ≡ b → (c : Bool) → eqb (type_at s p) bss_type ≡ c → (d : Bool)
-          → eqb (type_at s p) params_type ≡ d
+      go : (a : Bool) → eqb (type_at s p) code_type ≡ a → (b : Bool) → eqb (type_at s p) data_type ≡ b
+          → (c : Bool) → eqb (type_at s p) bss_type ≡ c → (d : Bool) → eqb (type_at s p) params_type ≡ d
           → (e : Bool) → eqb (type_at s p) entry_type ≡ e
           → P (cond a (loaded_segment s o p) (cond b (loaded_segment s o p)
           (cond c (bss_segment s p) (cond d (params_segment s o p) (cond e (entry_segment s p) (unknown_segment s p))))))
@@ -164,17 +165,12 @@ pub record Nth (s : List ℕ) (at o p : ℕ) (ys : List Segment) (n : ℕ) : Typ
   pub fits : first_failed (type_tests at (length s) (get_or ys n unused_segment)) ≡ 0
 
 -- A segment that is disjoint from others is disjoint from each.
-disjoint_each : (y : Segment) (xs : List Segment) → disjoint_from_all y xs ≡ true → (n : ℕ) → n < length xs → disjoint_targets (get_or xs n unused_segment) y ≡ true
+disjoint_each : (y : Segment) (xs : List Segment) → disjoint_from_all y xs ≡ true → (n : ℕ) → n < length xs
+    → disjoint_targets (get_or xs n unused_segment) y ≡ true
 unfolding disjoint_from_all
 disjoint_each y [] e n h = absurd (omega arith)
-disjoint_each y (x ∷ xs) e n h = go (disjoint_targets x y) refl e n h (disjoint_each y xs)
-  where
-    go : (b : Bool) → disjoint_targets x y ≡ b → cond b (disjoint_from_all y xs) false ≡ true → (n : ℕ) → n < suc (length xs)
-        → (disjoint_from_all y xs ≡ true → (n : ℕ) → n < length xs → disjoint_targets (get_or xs n unused_segment) y ≡ true)
-        → disjoint_targets (get_or (x ∷ xs) n unused_segment) y ≡ true
-    go false q f n h ih = absurd (false≢true f)
-    go true q f zero h ih = q
-    go true q f (suc n) h ih = ih f n (omega arith)
+disjoint_each y (x ∷ xs) e zero h = (both_true (disjoint_targets x y) (disjoint_from_all y xs) e).0
+disjoint_each y (x ∷ xs) e (suc n) h = disjoint_each y xs (both_true (disjoint_targets x y) (disjoint_from_all y xs) e).1 n (omega arith)
 
 module _ {s : List ℕ} {at o : ℕ} where
   at_zero : {p : ℕ} {xs : List Segment} (ys : List Segment) → Passed s at o p xs → Nth s at o p (segment_at s o p ∷ ys) 0
@@ -198,7 +194,8 @@ module _ {s : List ℕ} {at o : ℕ} where
       further : (m : ℕ) → p + 28 + 28 * m ≡ p + 28 * suc m
       further m = omega arith
 
-      go : (m : ℕ) → ((n : ℕ) → n < m → is_entry (segment_at s o (p + 28 + 28 * n)) ≡ false) → (n : ℕ) → n < suc m → is_entry (segment_at s o (p + 28 * n)) ≡ false
+      go : (m : ℕ) → ((n : ℕ) → n < m → is_entry (segment_at s o (p + 28 + 28 * n)) ≡ false)
+          → (n : ℕ) → n < suc m → is_entry (segment_at s o (p + 28 * n)) ≡ false
       go m g zero h = let q : p + 28 * 0 ≡ p = omega arith in rw q e
       go m g (suc n) h = subst (λ (y : ℕ). is_entry (segment_at s o y) ≡ false) (further n) (g n (omega arith))
 

@@ -6,21 +6,21 @@ use mathlib.Core.Bool.{Bool, true, false, cond}
 use mathlib.Core.List.{List, [], ◌∷◌, ◌++◌, append_assoc}
 use lib.ListN.{length, take, set, replicate}
 use lib.Dec.{eqb}
-use borrow.Author.Tests.{eq-eqb, ne_eqb, eqb-true, eqb-false}
+use borrow.Author.Tests.{eq-eqb, ne_eqb}
 use Rattle.bytes_read.specs.Lists.{padded}
 use Rattle.bytes_read.proofs.Padding.{padded_none, padded-set, padded-take}
 use Rattle.region.specs.Refusals.{Test, test, first_failed}
-use Rattle.region.specs.Region.{refusal_by}
+use Rattle.region.specs.Region.{refusal_by, unless_refused}
 use Rattle.cbfs_types.specs.declared.Refusal.{Refusal}
-use Rattle.load_segment.specs.LoadSegment.{load_tests}
+use Rattle.std.specs.Prelude.{Result, Ok, Err}
+use Rattle.cbfs_types.specs.declared.Taken.{Taken}
+use Rattle.load_segment.specs.LoadSegment.{content_place, load_tests}
+use Rattle.region.proofs.Answered.{value_given, refusal_given}
 use Rattle.load_payload.specs.Payload.{code_type, data_type, bss_type, params_type, entry_type, segment_at, bss_tests, params_tests, type_tests, record_tests}
-use Rattle.load_payload.specs.Payload.{judged_by, disjoint_from_all, is_entry, segment_limit, record_list_tests, segments_from, unused_segment, payload_plan}
-use Rattle.load_payload.specs.Payload.{refused_payload}
-use Rattle.load_payload.specs.Payload.{payload_answer, records_plan}
+use Rattle.load_payload.specs.Payload.{disjoint_from_all, is_entry, segment_limit, record_list_tests, segments_from, unused_segment, payload_plan}
+use Rattle.load_payload.specs.Payload.{origin, payload_tests, payload_answer, records_plan, payload_of}
 use Rattle.cbfs_types.specs.declared.Segment.{Segment}
 use Rattle.cbfs_types.specs.declared.PayloadPlan.{PayloadPlan}
-use Rattle.load_payload.specs.declared.JudgedRecord.{JudgedRecord}
-use Rattle.load_payload.specs.declared.JudgedRecord.TheVariants.{Fits, Refused}
 use Rattle.region.proofs.Orders.{numbered, first_here, first_later}
 
 -- k segments, the first at p.
@@ -64,22 +64,6 @@ pub record_numbered : (s : List ℕ) (at o p : ℕ) → numbered (record_tests s
 unfolding record_tests
 record_numbered s at o p = type_numbered at (length s) (segment_at s o p)
 
--- What the judge's answer says.
-
-pub judged_refused : (n : ℕ) (x : Segment) (m : ℕ) → judged_by n x ≡ Refused m → (n ≡ m) × (m ≡ 0 → ⊥)
-judged_refused n x m e = go (eqb n 0) refl e
-  where
-    go : (b : Bool) → eqb n 0 ≡ b → cond b (Fits x) (Refused n) ≡ Refused m → (n ≡ m) × (m ≡ 0 → ⊥)
-    go true q f = let z : ◌≡◌ {A = ℕ} 0 1 = cc in absurd (omega arith)
-    go false q f = let z : n ≡ m = cc in (z, λ y. eqb-false n 0 q (z ∙ y))
-
-pub judged-fits : (n : ℕ) (x y : Segment) → judged_by n x ≡ Fits y → (n ≡ 0) × (x ≡ y)
-judged-fits n x y e = go (eqb n 0) refl e
-  where
-    go : (b : Bool) → eqb n 0 ≡ b → cond b (Fits x) (Refused n) ≡ Fits y → (n ≡ 0) × (x ≡ y)
-    go true q f = (eqb-true n 0 q, (cc))
-    go false q f = let z : ◌≡◌ {A = ℕ} 0 1 = cc in absurd (omega arith)
-
 -- The tests and the segments from the i-th record on, counted from 0.
 
 one_more : (i : ℕ) → i < 16 → 16 - i ≡ suc (16 - (i + 1))
@@ -102,35 +86,32 @@ from_open s o i p h = rw (one_more i h)
 
 -- After i records, none of them refused and none an ENTRY.
 pub record Going (s : List ℕ) (at o i : ℕ) (all : List Segment) : Type 0 where
-  pub upto : i ≤ 16
   pub stored : all ≡ padded segment_limit unused_segment (segments_at s o i 0)
   pub refusal : first_failed (record_list_tests s at o 16 0 []) ≡ first_failed (record_list_tests s at o (16 - i) (28 * i) (segments_at s o i 0))
   pub segments : segments_from s o 16 0 ≡ segments_at s o i 0 ++ segments_from s o (16 - i) (28 * i)
 
-pub starting : (s : List ℕ) (at o : ℕ) {u : Segment} → u ≡ unused_segment → Going s at o 0 (replicate 16 u)
+pub starting : (s : List ℕ) (at o : ℕ) → Going s at o 0 (replicate 16 unused_segment)
 unfolding segments_at
-starting s at o e = record { upto = omega arith; stored = padded_none segment_limit unused_segment e; refusal = refl; segments = refl }
+starting s at o = record { stored = padded_none segment_limit unused_segment refl; refusal = refl; segments = refl }
 
 -- The plan, by the number of the first test that fails.
 
 module _ (s : List ℕ) (at o : ℕ) where
-  pub answered : {n : ℕ} {r : Refusal} {p : PayloadPlan} → first_failed (record_list_tests s at o 16 0 []) ≡ n → (n ≡ 0 → ⊥) → r ≡ refusal_by n
-      → p ≡ refused_payload r → p ≡ records_plan s at o
-  unfolding records_plan payload_answer
-  answered {n} e z f g = g ∙ rw (f, e, ne_eqb n 0 z)
+  answered : {n : ℕ} {r : Refusal} → first_failed (record_list_tests s at o 16 0 []) ≡ n → (n ≡ 0 → ⊥) → r ≡ refusal_by n → Err r ≡ records_plan s at o
+  unfolding payload_answer
+  answered {n} e z f = rw (f, e, ne_eqb n 0 z)
 
   planned : {xs : List Segment} {p : PayloadPlan} → first_failed (record_list_tests s at o 16 0 []) ≡ 0 → segments_from s o 16 0 ≡ xs → p ≡ payload_plan xs
-      → p ≡ records_plan s at o
-  unfolding records_plan payload_answer
-  planned e f g = g ∙ rw (e, f)
+      → Ok p ≡ records_plan s at o
+  unfolding payload_answer
+  planned e f g = rw (g, e, f)
 
-pub over : {s : List ℕ} {at o i : ℕ} {all : List Segment} {r : Refusal} {p : PayloadPlan} → Going s at o i all → 16 ≤ i → r ≡ refusal_by 21
-    → p ≡ refused_payload r → p ≡ records_plan s at o
-over {s} {at} {o} {i} g h e f = answered s at o (g.refusal ∙ records_over s at o i (28 * i) (segments_at s o i 0) h) (λ z. omega arith) e f
+pub over : {s : List ℕ} {at o i : ℕ} {all : List Segment} {r : Refusal} → Going s at o i all → 16 ≤ i → r ≡ refusal_by 21 → Err r ≡ records_plan s at o
+over {s} {at} {o} {i} g h e = answered s at o (g.refusal ∙ records_over s at o i (28 * i) (segments_at s o i 0) h) (λ z. omega arith) e
 
--- The next record, of which the judge answered j.
-module _ {s : List ℕ} {at o i : ℕ} {all : List Segment} (g : Going s at o i all) (h : i < 16) {j : JudgedRecord}
-    (e : j ≡ judged_by (first_failed (record_tests s at o (28 * i))) (segment_at s o (28 * i))) where
+-- The next record, of which j was answered.
+module _ {s : List ℕ} {at o i : ℕ} {all : List Segment} (g : Going s at o i all) (h : i < 16) {j : Result Segment Refusal}
+    (e : j ≡ unless_refused (first_failed (record_tests s at o (28 * i))) (segment_at s o (28 * i))) where
   abbrev before : List Segment
   before = segments_at s o i 0
 
@@ -143,15 +124,15 @@ module _ {s : List ℕ} {at o i : ℕ} {all : List Segment} (g : Going s at o i 
   opened : first_failed (record_list_tests s at o 16 0 []) ≡ first_failed (record_tests s at o (28 * i) ++ (test 26 (disjoint_from_all this before) ∷ later))
   opened = g.refusal ∙ ap first_failed (records_open s at o i (28 * i) before h)
 
-  pub by_record : {n : ℕ} {r : Refusal} {p : PayloadPlan} → j ≡ Refused n → r ≡ refusal_by n → p ≡ refused_payload r → p ≡ records_plan s at o
-  by_record {n} f =
-      let (a, z) = judged_refused (first_failed (record_tests s at o (28 * i))) this n (sym e ∙ f) in
-      answered s at o (opened ∙ first_here (record_tests s at o (28 * i)) (test 26 (disjoint_from_all this before) ∷ later) (λ y. z (sym a ∙ y)) ∙ a) z
+  pub by_record : {r : Refusal} → j ≡ Err r → Err r ≡ records_plan s at o
+  by_record {r} f =
+      let (z, a) = refusal_given this (first_failed (record_tests s at o (28 * i))) (sym e ∙ f) in
+      answered s at o (opened ∙ first_here (record_tests s at o (28 * i)) (test 26 (disjoint_from_all this before) ∷ later) z) z a
 
   -- It fits, and b says whether its target is disjoint from the earlier ones.
-  module _ {x : Segment} (f : j ≡ Fits x) {b : Bool} (q : b ≡ disjoint_from_all x (take i all)) where
+  module _ {x : Segment} (f : j ≡ Ok x) {b : Bool} (q : b ≡ disjoint_from_all x (take i all)) where
     fits : (first_failed (record_tests s at o (28 * i)) ≡ 0) × (this ≡ x)
-    fits = judged-fits (first_failed (record_tests s at o (28 * i))) this x (sym e ∙ f)
+    fits = value_given this (first_failed (record_tests s at o (28 * i))) (sym e ∙ f)
 
     cleared : disjoint_from_all this before ≡ b
     cleared =
@@ -163,7 +144,7 @@ module _ {s : List ℕ} {at o i : ℕ} {all : List Segment} (g : Going s at o i 
         opened ∙ first_later (record_tests s at o (28 * i)) (test 26 (disjoint_from_all this before) ∷ later) (record_numbered s at o (28 * i)) fits.0
         ∙ ap (λ (t : Bool). first_failed (test 26 t ∷ later)) cleared
 
-    pub overlapped : {r : Refusal} {p : PayloadPlan} → b ≡ false → r ≡ refusal_by 26 → p ≡ refused_payload r → p ≡ records_plan s at o
+    pub overlapped : {r : Refusal} → b ≡ false → r ≡ refusal_by 26 → Err r ≡ records_plan s at o
     overlapped t = answered s at o (passed ∙ rw t) (λ z. omega arith)
 
     stored : set all i x ≡ padded segment_limit unused_segment (segments_at s o (i + 1) 0)
@@ -177,7 +158,6 @@ module _ {s : List ℕ} {at o i : ℕ} {all : List Segment} (g : Going s at o i 
     module _ (t : b ≡ true) where
       pub going : (x.kind ≡ entry_type → ⊥) → Going s at o (i + 1) (set all i x)
       going z = record {
-        upto = omega arith;
         stored = stored;
         refusal = passed ∙ rw (t, not_last, segments_snoc s o i, further);
         segments = rest ∙ rw (not_last, segments_snoc s o i, further) (sym (append_assoc before (this ∷ []) _));
@@ -189,12 +169,23 @@ module _ {s : List ℕ} {at o i : ℕ} {all : List Segment} (g : Going s at o i 
           further : 28 * (i + 1) ≡ 28 * i + 28
           further = omega arith
 
-      pub finished : x.kind ≡ entry_type → {p : PayloadPlan} → p ≡ record { number = 0; place = 0; count = i + 1; segments = set all i x }
-          → p ≡ records_plan s at o
+      pub finished : x.kind ≡ entry_type → Ok (record { count = i + 1; segments = set all i x }) ≡ records_plan s at o
       unfolding payload_plan
-      finished z y =
+      finished z =
           planned s at o {xs = segments_at s o (i + 1) 0} (passed ∙ rw (t, last)) (rest ∙ rw (last, segments_snoc s o i))
-          (y ∙ rw (stored, segments_length s o (i + 1) 0))
+          (rw (stored, segments_length s o (i + 1) 0))
         where
           last : is_entry this ≡ true
           last = rw fits.1 (eq-eqb _ _ z)
+
+-- The plan of a component: refused by 18 where its type is another, else that of its records.
+
+pub no_payload : (t : Taken) (s : List ℕ) → (t.header.kind ≡ 0x20 → ⊥) → payload_of t s ≡ Err (refusal_by 18)
+unfolding payload_of payload_tests payload_answer
+no_payload t s h = rw (ne_eqb t.header.kind 0x20 h)
+
+pub payload_by : (t : Taken) (s : List ℕ) → t.header.kind ≡ 0x20 → payload_of t s ≡ records_plan s (content_place t) (origin t)
+unfolding payload_of payload_tests
+payload_by t s h = rw (eq-eqb t.header.kind 0x20 h)
+
+pub ruleset by_kind = (no_payload, payload_by)

@@ -3,7 +3,7 @@ use Prim.Native.Nat.{ℕ, ◌+◌, ◌*◌, ◌≤◌, ◌<◌}
 use native.Mathlib.Nat.{zero-add}
 use native.Mathlib.Omega.{arith}
 use native.Mathlib.Decide.{dec_lt}
-use mathlib.Core.Path.{◌≡◌, refl, sym, ap, ◌∙◌}
+use mathlib.Core.Path.{◌≡◌, refl, sym, ap, subst, ◌∙◌}
 use mathlib.Core.Bool.{true}
 use mathlib.Core.List.{List, [], ◌∷◌}
 use lib.ListN.{length, get_or}
@@ -11,45 +11,36 @@ use lib.Dec.{eqb}
 use borrow.Author.Tests.{eqb-true, eqb-false}
 use Rattle.bytes_read.proofs.Padding.{padded_nth, padded_past}
 use Rattle.region.specs.Refusals.{test, first_failed}
-use Rattle.region.specs.Region.{refusal_by}
+use Rattle.std.specs.Prelude.{Ok, Err}
 use Rattle.cbfs_types.specs.declared.Refusal.{Refusal}
 use Rattle.cbfs_types.specs.declared.Region.{Region}
 use Rattle.region.proofs.Orders.{all_passed, first_both}
 use Rattle.cbfs_types.specs.declared.Taken.{Taken}
 use Rattle.region_read.specs.RegionRead.{find_in, content_found_in}
-use Rattle.cbfs_types.specs.declared.Found.TheVariants.{At}
 use Rattle.load_segment.specs.LoadSegment.{content_place, disjoint_targets}
 use Rattle.cbfs_types.specs.declared.Segment.{Segment}
-use Rattle.load_segment.proofs.Finding.{Located, located, inside}
-use Rattle.load_segment.proofs.Answering.{accepted, refused, found_plan, refusal_zero}
+use Rattle.load_segment.proofs.Finding.{Located, located, inside, Refuses}
+use Rattle.region.proofs.Answered.{value_given}
+use Rattle.load_segment.proofs.Answering.{refused, found_plan, refused_plan}
 use Rattle.load_payload.specs.Payload.{type_at, origin, segment_at, type_tests, segment_limit, record_list_tests, segments_from, payload_tests, unused_segment}
 use Rattle.load_payload.specs.Payload.{payload_plan}
-use Rattle.load_payload.specs.Payload.{refused_payload, payload_answer, payload_of, payload_in}
+use Rattle.load_payload.specs.Payload.{payload_answer, payload_of, payload_in}
 use Rattle.load_payload.specs.Accepted.{segment_of, Target, AcceptedPayload}
 use Rattle.cbfs_types.specs.declared.PayloadPlan.{PayloadPlan}
 use Rattle.load_payload.proofs.Accepting.{source_fit, target_fit, memory_fit, compression_fit, known, kind_is, no_target, no_source, Run, run, from_most}
 use Rattle.load_payload.proofs.Accepting.{Nth, nth, ending, pairwise, disjoint_in}
 
--- What a plan's number and its refusals are.
-
-abbrev pub number : PayloadPlan → ℕ
-number p = p.number
-
-pub refused_number : (r : Refusal) → number (refused_payload r) ≡ r.number
-unfolding refused_payload
-refused_number r = refl
-
--- A component that was found, and its content s: its plan.
-module _ (i s : List ℕ) (t : Taken) (place : Located i s t) (ok : number (payload_of t s) ≡ 0) where
+-- A component that was found, and its content s: its plan p.
+module _ (i s : List ℕ) (t : Taken) (place : Located i s t) (p : PayloadPlan) (ok : payload_of t s ≡ Ok p) where
   abbrev all : List Segment
   all = segments_from s (origin t) 16 0
 
   abbrev plan : PayloadPlan
   plan = payload_plan all
 
-  planned : (first_failed (payload_tests t.header.kind s (content_place t) (origin t)) ≡ 0) × (payload_of t s ≡ plan)
-  unfolding payload_of payload_answer payload_plan
-  planned = accepted number refused_payload refused_number (first_failed (payload_tests t.header.kind s (content_place t) (origin t))) plan refl ok
+  planned : (first_failed (payload_tests t.header.kind s (content_place t) (origin t)) ≡ 0) × (plan ≡ p)
+  unfolding payload_of payload_answer
+  planned = value_given plan (first_failed (payload_tests t.header.kind s (content_place t) (origin t))) ok
 
   parts : (first_failed (test 18 (eqb t.header.kind 0x20) ∷ []) ≡ 0) × (first_failed (record_list_tests s (content_place t) (origin t) 16 0 []) ≡ 0)
   unfolding payload_tests
@@ -97,8 +88,8 @@ module _ (i s : List ℕ) (t : Taken) (place : Located i s t) (ok : number (payl
   unfolding payload_plan
   unused_past k h = padded_past segment_limit unused_segment all k h
 
-  holds : AcceptedPayload i s t plan
-  holds = record {
+  holds : AcceptedPayload i s t p
+  holds = subst (AcceptedPayload i s t) planned.1 (record {
     kind = eqb-true t.header.kind 0x20 (all_passed (test 18 (eqb t.header.kind 0x20) ∷ []) refl parts.0 0);
     content = inside i s t place;
     ordered = λ k h. (in_order k h, omega (arith, (each k h).long));
@@ -114,23 +105,21 @@ module _ (i s : List ℕ) (t : Taken) (place : Located i s t) (ok : number (payl
     sourceless = λ k h. rw (in_order k h) (no_source s (origin t) (28 * k));
     targetless = λ k h. rw (in_order k h) (no_target s (origin t) (28 * k));
     past = unused_past;
-  }
+  })
 
 module _ (i : List ℕ) (g : Region) (name : List ℕ) where
   abbrev content : List ℕ
   content = content_found_in true i g name
 
-  -- An accepted plan is that of the component which the guarded lookup gives.
-  pub payload_accepted : number (payload_in i g name) ≡ 0 → (t : Taken) × (find_in true i g name ≡ At t) × AcceptedPayload i content t (payload_in i g name)
+  -- A plan that is given is that of the component which the guarded lookup gives.
+  pub payload_accepted : (p : PayloadPlan) → payload_in i g name ≡ Ok p → (t : Taken) × (find_in true i g name ≡ Ok t) × AcceptedPayload i content t p
   unfolding payload_in
-  payload_accepted h =
-      let (t, f, z) = found_plan number refused_payload refused_number i g name (λ t. payload_of t content) h in
-      let l = located i g true name t f in
-      (t, f, rw (f, (planned i content t l z).1) (holds i content t l z))
+  payload_accepted p h =
+      let (t, f, z) = found_plan i g name (λ t. payload_of t content) p h in
+      (t, f, holds i content t (located i g true name t f) p z)
 
-  -- A refusal has its number, reports place 0, and is zero otherwise.
-  pub payload_refused : (number (payload_in i g name) ≡ 0 → ⊥) → payload_in i g name ≡ refused_payload (refusal_by (number (payload_in i g name)))
-  unfolding payload_in payload_of payload_answer payload_plan
-  payload_refused = refusal_zero number refused_payload refused_number i g name (λ t. payload_of t content)
-      (λ t. refused number refused_payload refused_number (first_failed (payload_tests t.header.kind content (content_place t) (origin t)))
-      (payload_plan (segments_from content (origin t) 16 0)) refl)
+  -- A refusal has the number of a test, and reports place 0.
+  pub payload_refused : (r : Refusal) → payload_in i g name ≡ Err r → Refuses r
+  unfolding payload_in payload_of payload_answer
+  payload_refused = refused_plan i g name (λ t. payload_of t content)
+      (λ t. refused (first_failed (payload_tests t.header.kind content (content_place t) (origin t))) (payload_plan (segments_from content (origin t) 16 0)))

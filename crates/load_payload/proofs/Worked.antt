@@ -8,17 +8,17 @@ use lib.Dec.{eqb}
 use Rattle.bytes_read.specs.Number.{be, le, be_bytes, le_bytes}
 use Rattle.bytes_read.specs.Bytes.{part_of}
 use Rattle.bytes_read.specs.Tests.{all_true}
-use Rattle.bytes_read.specs.Lists.{any, filter, padded}
-use Rattle.walk.specs.Walk.{place_count_below, places, magic_at, magic_inside, unless, guarded_pick, or_else, first, step, next_place, follow, steps, listing_from}
+use Rattle.bytes_read.specs.Lists.{filter, padded}
+use Rattle.walk.specs.Walk.{place_count_below, places, magic_at, magic_inside, unless, guarded_pick, or_else, first}
+use Rattle.walk.specs.Walk.{step, next_place, follow, steps, listing_from}
 use Rattle.walk_lookup.specs.Lookup.{bears, only_or_refused}
-use Rattle.region.specs.Region.{region_bytes}
+use Rattle.std.specs.Prelude.{Ok, Err}
+use Rattle.region.specs.Region.{region_bytes, refusal_by}
 use Rattle.load_segment.specs.LoadSegment.{source_fits, len_fits, target_fits, load_tests, ends_before, disjoint_targets}
-use Rattle.load_segment.proofs.Bench.{component, image, twice, region}
+use Rattle.load_segment.proofs.Bench.{component, image, twice, region, number}
 use Rattle.load_payload.specs.Payload.{code_type, data_type, bss_type, params_type, entry_type, segment_at, bss_tests, params_tests, type_tests, record_tests}
-use Rattle.load_payload.specs.Payload.{disjoint_from_all, record_list_tests, segments_from, payload_tests, unused_segment, payload_plan, refused_payload}
-use Rattle.load_payload.specs.Payload.{payload_answer}
-use Rattle.load_payload.specs.Payload.{payload_of, payload_in}
-use Rattle.cbfs_types.specs.declared.PayloadPlan.{PayloadPlan}
+use Rattle.load_payload.specs.Payload.{disjoint_from_all, record_list_tests, segments_from, payload_tests, unused_segment}
+use Rattle.load_payload.specs.Payload.{payload_plan, payload_answer, payload_of, payload_in}
 use Rattle.component.proofs.Opened.{judge_definitions}
 
 -- The types as bytes in flash: CODE, DATA, "BSS ", PARA and ENTR.
@@ -102,16 +102,16 @@ payloads =
     ∷ []
 
 abbrev agrees : ℕ × List ℕ → Bool
-agrees (n, s) = eqb (payload_of (component 0x20) s).number n
+agrees (n, s) = eqb (number (payload_of (component 0x20) s)) n
 
 worked_payloads : all_true (map agrees payloads) ≡ true
-unfolding be le be_bytes le_bytes source_fits len_fits target_fits load_tests segment_at bss_tests params_tests type_tests record_tests ends_before disjoint_targets
-    disjoint_from_all record_list_tests segments_from payload_tests payload_plan refused_payload payload_answer payload_of
+unfolding be le be_bytes le_bytes source_fits len_fits target_fits load_tests segment_at bss_tests params_tests type_tests record_tests
+    ends_before disjoint_targets disjoint_from_all record_list_tests segments_from payload_tests payload_plan payload_answer payload_of
 worked_payloads = refl
 
 -- The type comes first.
-other_payload : (payload_of (component 0x10) []).number ≡ 18
-unfolding payload_tests refused_payload payload_answer payload_of
+other_payload : payload_of (component 0x10) [] ≡ Err (refusal_by 18)
+unfolding payload_tests payload_answer payload_of
 other_payload = refl
 
 abbrev plain_payload : List ℕ
@@ -119,29 +119,24 @@ plain_payload =
     segment code_type 1 152 0x1000 4 0x100 ++ (segment params_type 2 150 0x77 3 0x99 ++ (bss 0x1100 16 ++ (segment entry_type 7 8 0x1004 9 9 ++ replicate 8 0)))
 
 -- What is reported of each type.
-read_payload : payload_in (image 0x20 plain_payload) (region 288) (0x70 ∷ []) ≡ record {
-  number = 0;
-  place = 0;
+read_payload : payload_in (image 0x20 plain_payload) (region 288) (0x70 ∷ []) ≡ Ok (record {
   count = 4;
   segments = record { kind = code_type; compression = 1; source = 216; load = 0x1000; len = 4; memlen = 0x100 }
       ∷ record { kind = params_type; compression = 2; source = 214; load = 0; len = 3; memlen = 0 }
       ∷ record { kind = bss_type; compression = 0; source = 0; load = 0x1100; len = 0; memlen = 16 }
       ∷ record { kind = entry_type; compression = 0; source = 0; load = 0x1004; len = 0; memlen = 0 }
       ∷ replicate 12 unused_segment;
-}
-unfolding judge_definitions le le_bytes part_of any filter place_count_below places magic_at magic_inside unless guarded_pick or_else first step next_place follow steps
-    listing_from
-    bears only_or_refused region_bytes source_fits len_fits target_fits load_tests segment_at bss_tests params_tests type_tests record_tests ends_before disjoint_targets
-    disjoint_from_all record_list_tests segments_from payload_tests padded payload_plan payload_answer payload_of payload_in
+})
+unfolding judge_definitions le le_bytes part_of filter place_count_below places magic_at magic_inside unless guarded_pick or_else first
+    step next_place follow steps listing_from bears only_or_refused region_bytes
+    source_fits len_fits target_fits load_tests segment_at bss_tests params_tests type_tests record_tests
+    ends_before disjoint_targets disjoint_from_all record_list_tests segments_from payload_tests padded payload_plan payload_answer payload_of payload_in
 read_payload = refl
 
 -- A name that no component has, and one that two components have: the lookup's refusal is the plan's, before the type is looked at.
-
-abbrev no_payload : ℕ → PayloadPlan
-no_payload n = record { number = n; place = 0; count = 0; segments = replicate 16 unused_segment }
-
-refused_lookups : (payload_in (twice 0x10) (region 168) (0x71 ∷ []) ≡ no_payload 10) × (payload_in (twice 0x10) (region 168) (0x70 ∷ []) ≡ no_payload 11)
-unfolding judge_definitions le le_bytes part_of any filter place_count_below places magic_at magic_inside unless guarded_pick or_else first step next_place follow steps
-    listing_from
-    bears only_or_refused region_bytes padded refused_payload payload_in
+refused_lookups :
+    (payload_in (twice 0x10) (region 168) (0x71 ∷ []) ≡ Err (refusal_by 10))
+    × (payload_in (twice 0x10) (region 168) (0x70 ∷ []) ≡ Err (refusal_by 11))
+unfolding judge_definitions le le_bytes part_of filter place_count_below places magic_at magic_inside unless guarded_pick or_else first
+    step next_place follow steps listing_from bears only_or_refused region_bytes payload_in
 refused_lookups = (refl, refl)

@@ -26,7 +26,7 @@ HasTarget x = (x.kind ≡ bss_type) ⊎ Loaded x
 abbrev pub Target : Segment → ℕ → Type 0
 Target x b = (x.load ≤ b) × (b < x.load + x.memlen)
 
--- A payload plan p.
+-- A payload plan p that is given.
 pub record AcceptedPayload (i s : List ℕ) (t : Taken) (p : PayloadPlan) : Type 0 where
   pub kind : t.header.kind ≡ 0x20
   pub content : ContentInside i s t

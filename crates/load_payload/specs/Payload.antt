@@ -1,19 +1,18 @@
 -- Payload plans (document 01, "Load plans"): a component of type 0x20. Its content s is a list of records, 28 bytes each, up to the first ENTRY.
 -- The content begins at the place `at` of the image; offsets are counted from the place o.
-use Rattle.std.specs.Prelude.{ℕ, zero, suc, ◌+◌, List, [], ◌∷◌, ◌++◌, Bool, true, false, cond, length, leb, eqb}
+use Rattle.std.specs.Prelude.{ℕ, zero, suc, ◌+◌, List, [], ◌∷◌, ◌++◌, Bool, true, false, cond, length, leb, eqb, Result}
+use Rattle.std.specs.List.{list_all}
 use Rattle.bytes_read.specs.Number.{be, le}
 use Rattle.bytes_read.specs.Lists.{padded}
 use Rattle.region.specs.Refusals.{Test, test, first_failed}
-use Rattle.region.specs.Region.{refusal_by}
+use Rattle.region.specs.Region.{unless_refused, and_then}
 use Rattle.cbfs_types.specs.declared.Refusal.{Refusal}
 use Rattle.cbfs_types.specs.declared.Region.{Region}
 use Rattle.cbfs_types.specs.declared.Taken.{Taken}
 use Rattle.region_read.specs.RegionRead.{find_in, content_found_in}
-use Rattle.load_segment.specs.LoadSegment.{content_place, plan_for, compression_fits, source_fits, target_fits, load_tests, disjoint_targets}
+use Rattle.load_segment.specs.LoadSegment.{content_place, compression_fits, source_fits, target_fits, load_tests, disjoint_targets}
 use Rattle.cbfs_types.specs.declared.Segment.{Segment}
 use Rattle.cbfs_types.specs.declared.PayloadPlan.{PayloadPlan}
-use Rattle.load_payload.specs.declared.JudgedRecord.{JudgedRecord}
-use Rattle.load_payload.specs.declared.JudgedRecord.TheVariants.{Fits, Refused}
 
 -- Where segment offsets are counted from, in the image: the component's header.
 abbrev pub origin : Taken → ℕ
@@ -101,14 +100,9 @@ type_tests at l x = by_type x.kind (load_tests at l x) (bss_tests x) (params_tes
 unfoldable pub record_tests : List ℕ → ℕ → ℕ → ℕ → List Test
 record_tests s at o p = test 19 (leb (p + 28) (length s)) ∷ type_tests at (length s) (segment_at s o p)
 
--- What the judge of a record answers, by the number n of the first test that fails.
-abbrev pub judged_by : ℕ → Segment → JudgedRecord
-judged_by n x = cond (eqb n 0) (Fits x) (Refused n)
-
 -- 26: the target of y and those of the segments xs share no byte.
 unfoldable pub disjoint_from_all : Segment → List Segment → Bool
-disjoint_from_all y [] = true
-disjoint_from_all y (x ∷ xs) = cond (disjoint_targets x y) (disjoint_from_all y xs) false
+disjoint_from_all y xs = list_all (λ x. disjoint_targets x y) xs
 
 -- The list ends with the first ENTRY.
 abbrev pub is_entry : Segment → Bool
@@ -139,26 +133,21 @@ abbrev pub unused_segment : Segment
 unused_segment = record { kind = 0; compression = 0; source = 0; load = 0; len = 0; memlen = 0 }
 
 -- The plan: the segments in the payload's order, ENTRY included, unused ones zero, and their count.
-
 unfoldable pub payload_plan : List Segment → PayloadPlan
-payload_plan xs = record { number = 0; place = 0; count = length xs; segments = padded segment_limit unused_segment xs }
-
--- A refusal has its number and its place, and is zero otherwise.
-unfoldable pub refused_payload : Refusal → PayloadPlan
-refused_payload r = record { number = r.number; place = r.place; count = 0; segments = padded segment_limit unused_segment [] }
+payload_plan xs = record { count = length xs; segments = padded segment_limit unused_segment xs }
 
 -- The plan by the number n of the first test that fails.
-unfoldable pub payload_answer : ℕ → List Segment → PayloadPlan
-payload_answer n xs = cond (eqb n 0) (payload_plan xs) (refused_payload (refusal_by n))
+unfoldable pub payload_answer : ℕ → List Segment → Result PayloadPlan Refusal
+payload_answer n xs = unless_refused n (payload_plan xs)
 
 -- The plan of the records in s.
-unfoldable pub records_plan : List ℕ → ℕ → ℕ → PayloadPlan
+abbrev pub records_plan : List ℕ → ℕ → ℕ → Result PayloadPlan Refusal
 records_plan s at o = payload_answer (first_failed (record_list_tests s at o segment_limit 0 [])) (segments_from s o segment_limit 0)
 
 -- The plan of a component t, whose content is s.
-unfoldable pub payload_of : Taken → List ℕ → PayloadPlan
+unfoldable pub payload_of : Taken → List ℕ → Result PayloadPlan Refusal
 payload_of t s = payload_answer (first_failed (payload_tests t.header.kind s (content_place t) (origin t))) (segments_from s (origin t) segment_limit 0)
 
 -- The payload plan of a name: 10 and 11 by the guarded lookup, then 18, then the records.
-unfoldable pub payload_in : List ℕ → Region → List ℕ → PayloadPlan
-payload_in i g name = plan_for (find_in true i g name) refused_payload (λ t. payload_of t (content_found_in true i g name))
+unfoldable pub payload_in : List ℕ → Region → List ℕ → Result PayloadPlan Refusal
+payload_in i g name = and_then (find_in true i g name) (λ t. payload_of t (content_found_in true i g name))

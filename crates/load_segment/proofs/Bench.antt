@@ -2,8 +2,10 @@
 use Prim.Native.Nat.{ℕ}
 use mathlib.Core.List.{List, [], ◌∷◌, ◌++◌}
 use lib.ListN.{length, replicate}
+use Rattle.std.specs.Prelude.{Result, Ok, Err}
 use Rattle.bytes_read.specs.Number.{be_bytes}
 use Rattle.component.specs.Component.{magic}
+use Rattle.cbfs_types.specs.declared.Refusal.{Refusal}
 use Rattle.cbfs_types.specs.declared.Taken.{Taken}
 use Rattle.cbfs_types.specs.declared.Region.{Region}
 
@@ -25,3 +27,8 @@ twice k = replicate 64 0xFF ++ (named 0x70 k [] ++ (replicate 24 0xFF ++ named 0
 
 abbrev pub region : ℕ → Region
 region n = record { start = 64; end = n; align = 64 }
+
+-- The number of a refusal, and 0 of a plan of either kind.
+abbrev pub number : {A : Type 0} → Result A Refusal → ℕ
+number (Ok p) = 0
+number (Err r) = r.number

@@ -6,6 +6,7 @@ use mathlib.Core.Bool.{Bool, true}
 use mathlib.Core.List.{List, [], ◌∷◌, Memᴰ}
 use lib.ListN.{length, take, drop, length-drop}
 use lib.Seq.{length-take-le, get_or-take, drop-drop}
+use Rattle.std.specs.Prelude.{Ok, Err}
 use Rattle.bytes_read.specs.Bytes.{part_of}
 use Rattle.bytes_read.proofs.Splice.{part_in}
 use Rattle.component.proofs.Judging.{judge_name, judge_content, window}
@@ -20,7 +21,6 @@ use Rattle.cbfs_types.specs.declared.Region.{Region}
 use Rattle.cbfs_types.specs.declared.Refusal.{Refusal}
 use Rattle.region.proofs.Regions.{bytes_fit, bytes_inside}
 use Rattle.region_read.specs.RegionRead.{taken_in, find_answer_in, find_in, content_found_in, content_found}
-use Rattle.cbfs_types.specs.declared.Found.TheVariants.{At, Refused}
 use Rattle.load_segment.specs.LoadSegment.{content_place}
 use Rattle.load_segment.specs.Accepted.{ContentInside}
 
@@ -80,38 +80,35 @@ module _ (i : List ℕ) (g : Region) (w : Bool) where
     standing_name = let n = judge_name (drop e.place (region_bytes i g)) e.component a.judged in
         sym n.2 ∙ from_place_lem 24 (length e.component.name) (omega (arith, n.1, a.fits))
 
-  pub located : (name : List ℕ) (t : Taken) → find_in w i g name ≡ At t → Located i (content_found_in w i g name) t
+  pub located : (name : List ℕ) (t : Taken) → find_in w i g name ≡ Ok t → Located i (content_found_in w i g name) t
   located name t f = go (lookup_of w (region_bytes i g) g.align name) refl f
     where
-      go : (o : LookupResult) → lookup_of w (region_bytes i g) g.align name ≡ o → find_answer_in i g o ≡ At t → Located i (content_found o) t
-      go (lookup_refused n) q h = let z : ◌≡◌ {A = ℕ} 0 1 = cc in absurd (omega arith)
+      go : (o : LookupResult) → lookup_of w (region_bytes i g) g.align name ≡ o → find_answer_in i g o ≡ Ok t → Located i (content_found o) t
+      go (lookup_refused n) q h = absurd (cc)
       go (lookup_gives e) q h =
           let z : taken_in i g e ≡ t = cc in
           subst (λ (x : Taken). Located i e.component.content x) z (standing e (lookup_member w (region_bytes i g) g.align name e q).0)
 
+-- What a refusal of a plan says: its number is that of a test, and it reports place 0.
+abbrev pub Refuses : Refusal → Type 0
+Refuses r = (r.number ≡ 0 → ⊥) × (r ≡ refusal_by r.number)
+
+-- So does a refusal of the lookup.
 module _ (i : List ℕ) (g : Region) (name : List ℕ) where
   abbrev looked : LookupResult
   looked = lookup_of true (region_bytes i g) g.align name
 
-  -- No lookup refuses by 0.
-  pub never_zero : (r : Refusal) → find_in true i g name ≡ Refused r → r.number ≡ 0 → ⊥
+  pub lookup_refuses : (r : Refusal) → find_in true i g name ≡ Err r → Refuses r
   unfolding only_or_refused
-  never_zero r f = go looked refl f
+  lookup_refuses r f = go looked refl f
     where
       number : (l : List Entry) (n : ℕ) → only_or_refused l ≡ lookup_refused n → n ≡ 0 → ⊥
       number [] n q z = let y : 10 ≡ n = cc in omega arith
-      number (x ∷ []) n q z = let y : ◌≡◌ {A = ℕ} 0 1 = cc in omega arith
+      number (x ∷ []) n q z = cc
       number (x ∷ y ∷ l) n q z = let y : 11 ≡ n = cc in omega arith
 
-      go : (o : LookupResult) → looked ≡ o → find_answer_in i g o ≡ Refused r → r.number ≡ 0 → ⊥
-      go (lookup_refused n) q h z = let y : refusal_by n ≡ r = cc in
-          number (filter (bears name) (guarded_listing (region_bytes i g) g.align)) n q (ap (λ (x : Refusal). x.number) y ∙ z)
-      go (lookup_gives e) q h z = let y : ◌≡◌ {A = ℕ} 0 1 = cc in omega arith
-
-  -- A refused lookup reports place 0.
-  pub refused_place : (r : Refusal) → find_in true i g name ≡ Refused r → r ≡ refusal_by r.number
-  refused_place r f = go looked f
-    where
-      go : (o : LookupResult) → find_answer_in i g o ≡ Refused r → r ≡ refusal_by r.number
-      go (lookup_refused n) e = let z : refusal_by n ≡ r = cc in subst (λ (x : Refusal). x ≡ refusal_by x.number) z refl
-      go (lookup_gives t) e = let z : ◌≡◌ {A = ℕ} 0 1 = cc in absurd (omega arith)
+      go : (o : LookupResult) → looked ≡ o → find_answer_in i g o ≡ Err r → Refuses r
+      go (lookup_refused n) q h =
+          let y : refusal_by n ≡ r = cc in
+          subst Refuses y (number (filter (bears name) (guarded_listing (region_bytes i g) g.align)) n q, refl)
+      go (lookup_gives e) q h = absurd (cc)

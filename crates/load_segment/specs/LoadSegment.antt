@@ -2,20 +2,12 @@
 use Rattle.std.specs.Prelude.{ℕ, ◌+◌, ◌^◌, List, [], ◌∷◌, Bool, true, cond, ◌||◌, leb, eqb}
 use Rattle.bytes_read.specs.Tests.{all_true}
 use Rattle.region.specs.Refusals.{Test, test}
-use Rattle.cbfs_types.specs.declared.Refusal.{Refusal}
 use Rattle.cbfs_types.specs.declared.Taken.{Taken}
-use Rattle.cbfs_types.specs.declared.Found.{Found}
-use Rattle.cbfs_types.specs.declared.Found.TheVariants.{At, Refused}
 use Rattle.cbfs_types.specs.declared.Segment.{Segment}
 
 -- Where the content of a component begins, in the image.
 abbrev pub content_place : Taken → ℕ
 content_place t = t.place + t.header.offset
-
--- The plan of the component that a lookup found, or the lookup's refusal, as a plan of either kind.
-abbrev pub plan_for : {A : Type 0} → Found → (Refusal → A) → (Taken → A) → A
-plan_for (Refused r) refusal plan = refusal r
-plan_for (At t) refusal plan = plan t
 
 -- 22: the compression is 0 to 2.
 abbrev pub compression_fits : ℕ → Bool

@@ -1,3 +1,2 @@
-pub mod Planning
 pub mod Theorems
 pub mod Worked

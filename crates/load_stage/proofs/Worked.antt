@@ -8,14 +8,15 @@ use lib.Dec.{eqb}
 use Rattle.bytes_read.specs.Number.{le, le_bytes}
 use Rattle.bytes_read.specs.Bytes.{part_of}
 use Rattle.bytes_read.specs.Tests.{all_true}
-use Rattle.bytes_read.specs.Lists.{any, filter}
-use Rattle.walk.specs.Walk.{place_count_below, places, magic_at, magic_inside, unless, guarded_pick, or_else, first, step, next_place, follow, steps, listing_from}
+use Rattle.bytes_read.specs.Lists.{filter}
+use Rattle.walk.specs.Walk.{place_count_below, places, magic_at, magic_inside, unless, guarded_pick, or_else, first}
+use Rattle.walk.specs.Walk.{step, next_place, follow, steps, listing_from}
 use Rattle.walk_lookup.specs.Lookup.{bears, only_or_refused}
-use Rattle.region.specs.Region.{region_bytes}
+use Rattle.std.specs.Prelude.{Ok, Err}
+use Rattle.region.specs.Region.{region_bytes, refusal_by}
 use Rattle.load_segment.specs.LoadSegment.{source_fits, len_fits, target_fits, load_tests}
-use Rattle.load_segment.proofs.Bench.{component, image, twice, region}
+use Rattle.load_segment.proofs.Bench.{component, image, twice, region, number}
 use Rattle.load_stage.specs.Stage.{stage_tests, stage_answer, stage_of, stage_in}
-use Rattle.cbfs_types.specs.declared.StagePlan.{StagePlan}
 use Rattle.component.proofs.Opened.{judge_definitions}
 
 -- The bytes that a stage begins with: compression, entry, load, len, memlen.
@@ -42,31 +43,28 @@ stages =
     ∷ []
 
 abbrev agrees : ℕ × List ℕ → Bool
-agrees (n, s) = eqb (stage_of (component 0x10) s).number n
+agrees (n, s) = eqb (number (stage_of (component 0x10) s)) n
 
 worked_stages : all_true (map agrees stages) ≡ true
 unfolding le le_bytes source_fits len_fits target_fits load_tests stage_tests stage_answer stage_of
 worked_stages = refl
 
 -- The type comes first.
-other_stage : (stage_of (component 0x20) []).number ≡ 18
+other_stage : stage_of (component 0x20) [] ≡ Err (refusal_by 18)
 unfolding stage_tests stage_answer stage_of
 other_stage = refl
 
 read_stage : stage_in (image 0x10 (header 1 0x77 0x1000 4 0x100 ++ replicate 4 0)) (region 200) (0x70 ∷ [])
-    ≡ record { number = 0; place = 0; compression = 1; entry = 0x77; load = 0x1000; source = 132; len = 4; memlen = 0x100 }
-unfolding judge_definitions le le_bytes part_of any filter place_count_below places magic_at magic_inside unless guarded_pick or_else first step next_place follow steps
-    listing_from
-    bears only_or_refused region_bytes source_fits len_fits target_fits load_tests stage_tests stage_answer stage_of stage_in
+    ≡ Ok (record { compression = 1; entry = 0x77; load = 0x1000; source = 132; len = 4; memlen = 0x100 })
+unfolding judge_definitions le le_bytes part_of filter place_count_below places magic_at magic_inside unless guarded_pick or_else first
+    step next_place follow steps listing_from bears only_or_refused region_bytes
+    source_fits len_fits target_fits load_tests stage_tests stage_answer stage_of stage_in
 read_stage = refl
 
 -- A name that no component has, and one that two components have: the lookup's refusal is the plan's, before the type is looked at.
-
-abbrev no_stage : ℕ → StagePlan
-no_stage n = record { number = n; place = 0; compression = 0; entry = 0; load = 0; source = 0; len = 0; memlen = 0 }
-
-refused_lookups : (stage_in (twice 0x20) (region 168) (0x71 ∷ []) ≡ no_stage 10) × (stage_in (twice 0x20) (region 168) (0x70 ∷ []) ≡ no_stage 11)
-unfolding judge_definitions le le_bytes part_of any filter place_count_below places magic_at magic_inside unless guarded_pick or_else first step next_place follow steps
-    listing_from
-    bears only_or_refused region_bytes stage_in
+refused_lookups :
+    (stage_in (twice 0x20) (region 168) (0x71 ∷ []) ≡ Err (refusal_by 10))
+    × (stage_in (twice 0x20) (region 168) (0x70 ∷ []) ≡ Err (refusal_by 11))
+unfolding judge_definitions le le_bytes part_of filter place_count_below places magic_at magic_inside unless guarded_pick or_else first
+    step next_place follow steps listing_from bears only_or_refused region_bytes stage_in
 refused_lookups = (refl, refl)

@@ -7,7 +7,7 @@ use Rattle.load_segment.specs.Accepted.{ContentInside, Source}
 use Rattle.load_stage.specs.Stage.{entry_point, binary_at, stage_plan}
 use Rattle.cbfs_types.specs.declared.StagePlan.{StagePlan}
 
--- A stage plan p.
+-- A stage plan p that is given.
 pub record AcceptedStage (i s : List ℕ) (t : Taken) (p : StagePlan) : Type 0 where
   pub kind : t.header.kind ≡ 0x10
   pub content : ContentInside i s t

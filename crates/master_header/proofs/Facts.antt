@@ -1,52 +1,42 @@
 -- What the master header gives: what a refusal is, and what an image that is not refused by 1 to 8 is known to have.
 use Prim.Native.Nat.{ℕ, ◌+◌, ◌-◌, ◌^◌, ◌%◌, ◌≤◌}
 use native.Mathlib.Omega.{arith}
-use mathlib.Core.Path.{◌≡◌, refl, ap, subst, ◌∙◌}
-use mathlib.Core.Bool.{Bool, true, false, cond}
+use mathlib.Core.Path.{◌≡◌, refl, subst}
+use mathlib.Core.Bool.{true}
 use mathlib.Core.List.{List, [], ◌∷◌}
 use lib.ListN.{length, get_or}
 use lib.Dec.{leb, eqb}
 use lib.Count.{ones}
-use borrow.Author.Tests.{leb-true, eqb-true, eqb-false}
+use borrow.Author.Tests.{leb-true, eqb-true}
 use Rattle.region.specs.Region.{refusal_by}
+use Rattle.std.specs.Prelude.{Ok, Err}
 use Rattle.bytes_read.proofs.Numbers.{be_same, le_same}
 use Rattle.bytes_read.proofs.Passing.{passes}
 use Rattle.region.specs.Refusals.{test, length_fits}
 use Rattle.region.proofs.Orders.{all_passed}
+use Rattle.region.proofs.Answered.{value_given, refusal_given}
 use Rattle.cbfs_types.specs.declared.Refusal.{Refusal}
 use Rattle.cbfs_types.specs.declared.Region.{Region}
 use Rattle.master_header.specs.Master.{address, field, romsize, bootblocksize, align, offset, header_at, address_fits, bootblock_fits, align_fits, offset_fits}
 use Rattle.master_header.specs.Master.{master_tests, refusal_number, region_of, master}
-use Rattle.cbfs_types.specs.declared.Master.TheVariants.{Read, Refused}
 use Rattle.master_header.proofs.Power.{one_bit}
 use Rattle.master_header.proofs.Refusing.{length_bounds, header_inside}
 
-pub read_some : (i : List ℕ) (g : Region) → master i ≡ Read g → (refusal_number i ≡ 0) × (region_of i ≡ g)
+pub read_some : (i : List ℕ) (g : Region) → master i ≡ Ok g → (refusal_number i ≡ 0) × (region_of i ≡ g)
 unfolding master
-read_some i g e = go (eqb (refusal_number i) 0) refl e
-  where
-    go : (b : Bool) → eqb (refusal_number i) 0 ≡ b → cond b (Read (region_of i)) (Refused (refusal_by (refusal_number i))) ≡ Read g
-        → (refusal_number i ≡ 0) × (region_of i ≡ g)
-    go true q e' = (eqb-true _ _ q, (cc))
-    go false q e' = let z : ◌≡◌ {A = ℕ} 0 1 = cc in absurd (omega arith)
+read_some i g e = value_given (region_of i) (refusal_number i) e
 
--- A refusal has a number that is not 0, and reports place 0.
+-- A refusal has the number of the first test that fails, which is not 0, and reports place 0.
 
-pub refused_number : (i : List ℕ) (r : Refusal) → master i ≡ Refused r → r.number ≡ 0 → ⊥
+pub refused_by : (i : List ℕ) (r : Refusal) → master i ≡ Err r → (refusal_number i ≡ 0 → ⊥) × (r ≡ refusal_by (refusal_number i))
 unfolding master
-refused_number i r e z = go (eqb (refusal_number i) 0) refl e
-  where
-    go : (b : Bool) → eqb (refusal_number i) 0 ≡ b → cond b (Read (region_of i)) (Refused (refusal_by (refusal_number i))) ≡ Refused r → ⊥
-    go true q f = let y : ◌≡◌ {A = ℕ} 0 1 = cc in omega arith
-    go false q f = let s : refusal_by (refusal_number i) ≡ r = cc in eqb-false _ _ q (ap (λ (x : Refusal). x.number) s ∙ z)
+refused_by i r e = refusal_given (region_of i) (refusal_number i) e
 
-pub refused_place : (i : List ℕ) (r : Refusal) → master i ≡ Refused r → r ≡ refusal_by r.number
-unfolding master
-refused_place i r e = go (eqb (refusal_number i) 0) e
-  where
-    go : (b : Bool) → cond b (Read (region_of i)) (Refused (refusal_by (refusal_number i))) ≡ Refused r → r ≡ refusal_by r.number
-    go true f = let z : ◌≡◌ {A = ℕ} 0 1 = cc in absurd (omega arith)
-    go false f = let z : refusal_by (refusal_number i) ≡ r = cc in subst (λ (x : Refusal). x ≡ refusal_by x.number) z refl
+pub refused_number : (i : List ℕ) (r : Refusal) → master i ≡ Err r → r.number ≡ 0 → ⊥
+refused_number i r e z = let f = refused_by i r e in f.0 (rw f.1 at z)
+
+pub refused_place : (i : List ℕ) (r : Refusal) → master i ≡ Err r → r ≡ refusal_by r.number
+refused_place i r e = rw (refused_by i r e).1
 
 -- The region of an image that is read.
 pub record Known (i : List ℕ) (g : Region) : Type 0 where
@@ -62,7 +52,7 @@ pub record Known (i : List ℕ) (g : Region) : Type 0 where
   pub before : g.end ≤ header_at i
   pub header : header_at i + 36 ≤ length i
 
-pub known : (i : List ℕ) (g : Region) → master i ≡ Read g → Known i g
+pub known : (i : List ℕ) (g : Region) → master i ≡ Ok g → Known i g
 unfolding master_tests refusal_number bootblock_fits align_fits offset_fits
 known i g e = subst (Known i) r.1 (record {
   long = (length_bounds i (p 0)).0;
@@ -96,11 +86,11 @@ known i g e = subst (Known i) r.1 (record {
     o k = passes k (eqb (offset i % align i) 0 ∷ leb (offset i) (romsize i - bootblocksize i) ∷ []) (p 7)
 
 -- An align that is read is a power of two, 2^4 to 2^16.
-pub align_power : (i : List ℕ) (g : Region) → master i ≡ Read g → (k : ℕ) × (g.align ≡ 2 ^ k)
+pub align_power : (i : List ℕ) (g : Region) → master i ≡ Ok g → (k : ℕ) × (g.align ≡ 2 ^ k)
 align_power i g e = one_bit g.align (known i g e).one
 
 -- An image that has the same bytes from the region's end on has the same region: the header and P stand there.
-module _ (i i' : List ℕ) (g : Region) (read : master i ≡ Read g) (alike : length i' ≡ length i) (same : (j : ℕ) → g.end ≤ j → get_or i' j 0 ≡ get_or i j 0) where
+module _ (i i' : List ℕ) (g : Region) (read : master i ≡ Ok g) (alike : length i' ≡ length i) (same : (j : ℕ) → g.end ≤ j → get_or i' j 0 ≡ get_or i j 0) where
   facts : Known i g
   facts = known i g read
 
@@ -114,6 +104,6 @@ module _ (i i' : List ℕ) (g : Region) (read : master i ≡ Read g) (alike : le
   same_field : (k : ℕ) → field i' k ≡ field i k
   same_field k = rw same_header (be_same 4 i i' (header_at i + k) (λ j l m. same j (omega (arith, facts.before))))
 
-  pub same_region : master i' ≡ Read g
+  pub same_region : master i' ≡ Ok g
   unfolding master refusal_number master_tests length_fits address_fits bootblock_fits
   same_region = rw (same_field 0, same_field 4, same_field 8, same_field 12, same_field 16, same_field 20, same_header, same_address, alike) read

@@ -6,11 +6,11 @@ use mathlib.Core.List.{List, [], ◌∷◌, ◌++◌, map}
 use lib.ListN.{replicate}
 use lib.Dec.{eqb}
 use lib.Count.{ones, ones_in}
+use Rattle.std.specs.Prelude.{Ok}
 use Rattle.bytes_read.specs.Number.{be, le, be_bytes, le_bytes}
 use Rattle.bytes_read.specs.Tests.{all_true}
 use Rattle.region.specs.Refusals.{length_fits}
 use Rattle.master_header.specs.Master.{header_at, address_fits, bootblock_fits, align_fits, offset_fits, master_tests, refusal_number, master}
-use Rattle.cbfs_types.specs.declared.Master.TheVariants.{Read}
 
 -- What is computed below.
 unfoldable opened : ℕ
@@ -40,7 +40,7 @@ read : master (
     replicate 44 0xFF
     ++ (0x4F ∷ 0x52 ∷ 0x42 ∷ 0x43 ∷ 0x31 ∷ 0x31 ∷ 0x31 ∷ 0x31 ∷ 0 ∷ 0 ∷ 0 ∷ 80 ∷ 0 ∷ 0 ∷ 0 ∷ 48 ∷ 0 ∷ 0 ∷ 0 ∷ 16 ∷ 0 ∷ 0 ∷ 0 ∷ 16
     ∷ 1 ∷ 2 ∷ 3 ∷ 4 ∷ 5 ∷ 6 ∷ 7 ∷ 8 ∷ 0xDC ∷ 0xFF ∷ 0xFF ∷ 0xFF ∷ [])
-    ) ≡ Read (record { start = 16; end = 32; align = 16 })
+    ) ≡ Ok (record { start = 16; end = 32; align = 16 })
 unfolding opened
 read = refl
 

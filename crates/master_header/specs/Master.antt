@@ -1,13 +1,13 @@
 -- The master header of an image i (document 01, "Master header", and refusals 1 to 8). L is the length of i.
-use Rattle.std.specs.Prelude.{ℕ, ◌+◌, ◌-◌, ◌^◌, ◌%◌, List, [], ◌∷◌, Bool, cond, length, leb, eqb}
+use Rattle.std.specs.Prelude.{ℕ, ◌+◌, ◌-◌, ◌^◌, ◌%◌, List, [], ◌∷◌, Bool, Result, length, leb, eqb}
 use Rattle.std.specs.Int.Count.{ones}
 use Rattle.bytes_read.specs.Number.{be, le}
 use Rattle.bytes_read.specs.Tests.{all_true}
 use Rattle.region.specs.Refusals.{Test, test, first_failed, length_fits}
-use Rattle.region.specs.Region.{refusal_by}
+use Rattle.region.specs.Region.{unless_refused}
+use Rattle.cbfs_types.specs.declared.Refusal.{Refusal}
 use Rattle.cbfs_types.specs.declared.Region.{Region}
-use Rattle.cbfs_types.specs.declared.Master.{Master}
-use Rattle.cbfs_types.specs.declared.Master.TheVariants.{Read, Refused}
+use Rattle.master_header.specs.declared.MasterHeader.{MasterHeader}
 
 -- P, the address that the last four bytes hold.
 abbrev pub address : List ℕ → ℕ
@@ -41,6 +41,18 @@ align i = field i 16
 
 abbrev pub offset : List ℕ → ℕ
 offset i = field i 20
+
+-- The header's place and numbers, as they are read.
+abbrev pub header_of : List ℕ → MasterHeader
+header_of i = record {
+  at = header_at i;
+  magic = header_magic i;
+  version = version i;
+  romsize = romsize i;
+  bootblocksize = bootblocksize i;
+  align = align i;
+  offset = offset i;
+}
 
 -- 2: P is 0xFFFF0000 to 0xFFFFFFDC, and the header stands at byte 0 or later.
 unfoldable pub address_fits : List ℕ → Bool
@@ -79,5 +91,5 @@ unfoldable pub refusal_number : List ℕ → ℕ
 refusal_number i = first_failed (master_tests i)
 
 -- The region of an image, or the refusal.
-unfoldable pub master : List ℕ → Master
-master i = cond (eqb (refusal_number i) 0) (Read (region_of i)) (Refused (refusal_by (refusal_number i)))
+unfoldable pub master : List ℕ → Result Region Refusal
+master i = unless_refused (refusal_number i) (region_of i)

@@ -1,21 +1,18 @@
 -- Laws of the text on a page and of its digits.
-use Prim.Native.Nat.{ℕ, zero, suc, ◌+◌, ◌*◌, ◌/◌, ◌%◌, ◌≤◌, ◌<◌}
-use mathlib.Core.Path.{◌≡◌, refl, ap, ◌∙◌}
-use mathlib.Core.Bool.{Bool, cond}
-use mathlib.Core.List.{List, [], ◌∷◌}
-use native.Mathlib.Nat.{le_of_suc-le-suc, not-suc-le-zero}
+use Prim.Native.Nat.{ℕ, zero, suc, ◌+◌, ◌*◌, ◌/◌, ◌%◌, ◌^◌, ◌-◌, ◌<◌}
+use mathlib.Core.Path.{◌≡◌, refl, sym, ◌∙◌}
+use mathlib.Core.Bool.{true, false, true≢false}
+use mathlib.Core.List.{List, [], ◌∷◌, ◌++◌}
+use native.Mathlib.Nat.{le_of_suc-le-suc, not-suc-le-zero, div-div-eq-div-mul, div-one, pow-suc, mul_comm}
+use native.Mathlib.Decide.{dec_lt}
 use native.Mathlib.Omega.{arith}
-use lib.ListN.{length, get_or, set}
-use Rattle.bytes_read.specs.Bytes.{fits, splice, written}
-use Rattle.bytes_read.proofs.Splice.{fitting, unfitting}
+use lib.ListN.{length, get_or, set, length-append, get_or-append}
+use lib.Seq.{get_or_at, ext_get_or}
+use lib.Dec.{eqb}
+use lib.Pow.{pow-add}
+use borrow.Author.Tests.{eqb-true}
 use Rattle.bytes_read.proofs.Overwrite.{Over, over_next}
-use Rattle.program_text.specs.Page.{used_after}
-use Rattle.program_text.specs.Digits.{digit_of, digits, hex_pairs, hex_of}
-
--- What is in use, by whether the text fits.
-pub after_when : (page : List ℕ) (used n : ℕ) {b : Bool} → b ≡ fits page used n → cond b (used + n) used ≡ used_after page used n
-unfolding used_after
-after_when page used n e = ap (λ (b : Bool). cond b (used + n) used) e
+use Rattle.program_text.specs.Digits.{digit_of, digits, hex_pairs, hex_of, type_digits}
 
 pub length_pairs : (s : List ℕ) → length (hex_pairs s) ≡ 2 * length s
 unfolding digits hex_pairs
@@ -45,27 +42,57 @@ pairs_next s {d₀} {d} {i} {b} {x} {y} o h e p q =
     let n : 2 * i + 1 + 1 ≡ 2 * (i + 1) = omega arith in
     rw n at (over_next y (over_next x o l (two.0 ∙ rw (p, e))) m (two.1 ∙ rw (q, e)))
 
--- No bytes.
-pub hex_none : (s : List ℕ) → length s ≡ 0 → 45 ∷ [] ≡ hex_of s
+-- No bytes, and some.
+
+pub hex_none : (s : List ℕ) → eqb (length s) 0 ≡ true → hex_of s ≡ 45 ∷ []
 unfolding hex_of
 hex_none [] h = refl
-hex_none (b ∷ s) h = absurd (omega arith)
+hex_none (b ∷ s) h = absurd (let e = eqb-true _ _ h in omega arith)
 
-hex_some : (s : List ℕ) → (length s ≡ 0 → ⊥) → hex_pairs s ≡ hex_of s
+pub hex_some : (s : List ℕ) → eqb (length s) 0 ≡ false → hex_of s ≡ hex_pairs s
 unfolding hex_of
-hex_some [] h = absurd (h refl)
+hex_some [] h = absurd (true≢false h)
 hex_some (b ∷ s) h = refl
 
--- Some bytes that do not fit, and some that do: what is answered, and what is left.
+-- What `hex` writes, and how long it is.
+pub ruleset hex_text = (hex_none, hex_some, length_pairs)
 
-pub hex_out : (page : List ℕ) (used : ℕ) (s : List ℕ) → (length s ≡ 0 → ⊥) → length page < used + 2 * length s
-    → (used ≡ used_after page used (length (hex_of s))) × (page ≡ written page used (hex_of s))
-hex_out page used s k h =
-    let u = unfitting page used (2 * length s) (hex_pairs s) (length_pairs s) h in
-    rw (← hex_some s k, length_pairs s) (after_when page used (2 * length s) u.0, u.1)
+-- The digits one by one.
 
-pub hex_in : (page : List ℕ) (used : ℕ) (s : List ℕ) {x : List ℕ} → (length s ≡ 0 → ⊥) → used + 2 * length s ≤ length page → x ≡ splice page used (hex_pairs s)
-    → (used + 2 * length s ≡ used_after page used (length (hex_of s))) × (x ≡ written page used (hex_of s))
-hex_in page used s k h e =
-    let u = fitting page used (2 * length s) (hex_pairs s) (length_pairs s) h e in
-    rw (← hex_some s k, length_pairs s) (after_when page used (2 * length s) u.0, u.1)
+length-digits : (ten k n : ℕ) → length (digits ten k n) ≡ k
+unfolding digits
+length-digits ten zero n = refl
+length-digits ten (suc k) n = simp length-append (omega (arith, length-digits ten k (n / 16)))
+
+digit_at : (ten k n j : ℕ) → j < k → get_or (digits ten k n) j 0 ≡ digit_of ten (n / 16 ^ (k - suc j) % 16)
+unfolding digits
+digit_at ten zero n j h = absurd (omega arith)
+digit_at ten (suc k) n j h = go (dec_lt j k) (digit_at ten k (n / 16) j)
+  where
+    last : List ℕ
+    last = digit_of ten (n % 16) ∷ []
+
+    go : Dec (j < k) → (j < k → get_or (digits ten k (n / 16)) j 0 ≡ digit_of ten (n / 16 / 16 ^ (k - suc j) % 16))
+        → get_or (digits ten k (n / 16) ++ last) j 0 ≡ digit_of ten (n / 16 ^ (suc k - suc j) % 16)
+    go (yes l) ih =
+        let m : suc k - suc j ≡ suc (k - suc j) = omega arith in
+        get_or-append (digits ten k (n / 16)) last 0 j (rw length-digits l)
+        ∙ rw (ih l, div-div-eq-div-mul, m, pow-suc 16 (k - suc j), mul_comm 16 (16 ^ (k - suc j)))
+    go (no g) ih =
+        let m : suc k - suc j ≡ 0 = omega arith in
+        get_or_at (digits ten k (n / 16)) (digit_of ten (n % 16)) [] 0 j (rw length-digits (omega arith)) ∙ rw (m, div-one)
+
+-- Four bits make a digit.
+sixteen : (m : ℕ) → 2 ^ (4 * m) ≡ 16 ^ m
+sixteen zero = refl
+sixteen (suc m) =
+    let e : 4 * suc m ≡ 4 * m + 4 = omega arith in
+    rw (e, pow-add 2 (4 * m) 4, sixteen m, pow-suc 16 m)
+
+-- Eight digits, each found by a shift.
+pub eight : (n : ℕ) (l : List ℕ) → length l ≡ 8 → ((k : ℕ) → k < 8 → get_or l k 0 ≡ digit_of 65 (n / 2 ^ (28 - 4 * k) % 16)) → l ≡ type_digits n
+unfolding type_digits
+eight n l e h = ext_get_or 0 l (digits 65 8 n) (rw length-digits e) (λ j b.
+    let i : j < 8 = omega arith in
+    let m : 28 - 4 * j ≡ 4 * (8 - suc j) = omega arith in
+    rw m at (h j i) ∙ rw (sixteen (8 - suc j)) (sym (digit_at 65 8 n j i)))

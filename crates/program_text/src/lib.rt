@@ -7,16 +7,20 @@ ghost use Rattle.bytes_read.specs.Bytes.{written};
 ghost use Rattle.program_text.specs.Page.{used_after};
 ghost use Rattle.program_text.specs.Digits.{digit_of, hex_pairs, hex_of, type_digits};
 
+use std::array;
+
 // The bytes as they are. Answers how much of the page is in use then.
+#[tactic(auto, unfolding(crate::specs::Page::used_after))]
 pub fn put(page: &mut [u8], used: usize, s: &[u8]) -> usize
     ensures value { result ≡ used_after page.old used (length s.now) }
     ensures bytes { page.new ≡ written page.old used s.now }
     ensures kept { s.exit.now ≡ s.entry.now }
 {
     if bytes_write::copy(page, used, s) {
-        return used + s.len();
+        used + s.len()
+    } else {
+        used
     }
-    used
 }
 
 // The last digit of n; the letters begin at `ten`, an ASCII code.
@@ -28,41 +32,30 @@ fn digit(n: u32, ten: u8) -> u8
     if d < 10 { b'0' + d } else { ten + (d - 10) }
 }
 
-// A byte as a wider number, which asks nothing of a byte read in a loop.
-fn widened(b: u8) -> u32
-    ensures { result ≡ b }
-{
-    b as u32
-}
-
 // Overwrites the whole of dst, which is twice as long as s, with two lower-case digits a byte.
 fn fill_hex_pairs(dst: &mut [u8], s: &[u8])
     requires { length dst.old ≡ 2 * length s.now }
     ensures { dst.new ≡ hex_pairs s.now }
 {
-    let mut i = 0;
-    while i < s.len() {
-        let b = widened(s[i]);
+    for (i, b) in s.iter().enumerate() {
+        let b = u32::from(*b);
         dst[2 * i] = digit(b / 16, b'a');
         dst[2 * i + 1] = digit(b, b'a');
-        i += 1;
     }
 }
 
 // The bytes in lower-case hexadecimal, or `-` for none. Answers how much of the page is in use then.
+#[tactic(auto, unfolding(crate::specs::Page::used_after), using(crate::proofs::Laws::hex_text))]
 pub fn hex(page: &mut [u8], used: usize, s: &[u8]) -> usize
     ensures value { result ≡ used_after page.old used (length (hex_of s.now)) }
     ensures bytes { page.new ≡ written page.old used (hex_of s.now) }
     ensures kept { s.exit.now ≡ s.entry.now }
 {
-    if s.len() == 0 {
+    if s.is_empty() {
         return put(page, used, b"-");
     }
-    if page.len() / 2 < s.len() {
-        return used;
-    }
     let n = 2 * s.len();
-    if page.len() - n < used {
+    if !bytes_write::has_room(page, used, n) {
         return used;
     }
     fill_hex_pairs(&mut page[used..used + n], s);
@@ -73,14 +66,5 @@ pub fn hex(page: &mut [u8], used: usize, s: &[u8]) -> usize
 pub fn type_digits(kind: u32) -> [u8; 8]
     ensures { result ≡ type_digits kind }
 {
-    [
-        digit(kind / 0x10000000, b'A'),
-        digit(kind / 0x1000000, b'A'),
-        digit(kind / 0x100000, b'A'),
-        digit(kind / 0x10000, b'A'),
-        digit(kind / 0x1000, b'A'),
-        digit(kind / 0x100, b'A'),
-        digit(kind / 0x10, b'A'),
-        digit(kind, b'A'),
-    ]
+    array::from_fn(|k| digit(kind >> (28 - 4 * k), b'A'))
 }

@@ -1,4 +1,5 @@
 pub mod Orders
+pub mod Answered
 pub mod Tables
 pub mod Regions
 pub mod Worked

@@ -26,15 +26,10 @@ pub fn bytes(image: &[u8], region: Region) -> &[u8]
 }
 
 // Test 1: the image has 64 to 16,777,216 bytes.
+#[tactic(auto, unfolding(crate::specs::Refusals::length_fits))]
 pub fn length_fits(image: &[u8]) -> bool
     ensures value { result ≡ length_fits image.now }
     ensures kept { image.exit.now ≡ image.entry.now }
 {
-    if image.len() < IMAGE_MIN {
-        return false;
-    }
-    if IMAGE_MAX < image.len() {
-        return false;
-    }
-    true
+    IMAGE_MIN <= image.len() && image.len() <= IMAGE_MAX
 }

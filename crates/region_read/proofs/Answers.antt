@@ -4,7 +4,7 @@ use native.Mathlib.Omega.{arith}
 use mathlib.Core.Path.{◌≡◌, refl, sym, ap, subst, ◌∙◌}
 use mathlib.Core.Bool.{Bool, true, false}
 use mathlib.Core.List.{List, [], Memᴰ}
-use mathlib.Core.Option.{Option, some, none}
+use Rattle.std.specs.Prelude.{Option, Some, None, Ok, Err}
 use lib.ListN.{length, drop}
 use Rattle.bytes_read.specs.Bytes.{part_of}
 use Rattle.component.specs.Component.{Component, judged, header_of, content_of}
@@ -12,8 +12,6 @@ use Rattle.component.proofs.Judging.{part_content}
 use Rattle.walk.specs.Walk.{Entry, pick_of, step, next, listing, taken_of, step_answer}
 use Rattle.walk_lookup.specs.Lookup.{LookupResult, lookup_refused, lookup_gives, bearer_answer}
 use Rattle.cbfs_types.specs.declared.Taken.{Taken}
-use Rattle.walk.specs.declared.WalkStep.TheVariants.{Took as WalkTook, NoneLeft as WalkNoneLeft}
-use Rattle.walk_lookup.specs.declared.BearerSearch.TheVariants.{At as WalkAt, Refused as WalkRefused}
 use Rattle.walk.proofs.Standing.{stands, answer_some}
 use Rattle.walk.proofs.Members.{given, next_within}
 use Rattle.walk_lookup.proofs.Answers.{found_some}
@@ -22,9 +20,6 @@ use Rattle.cbfs_types.specs.declared.Region.{Region}
 use Rattle.cbfs_types.specs.declared.Refusal.{Refusal}
 use Rattle.region.proofs.Regions.{bytes_inside}
 use Rattle.region_read.specs.RegionRead.{is_step_start, step_answer_in, step_by, find_answer_in, content_found}
-use Rattle.cbfs_types.specs.declared.Step.{Step}
-use Rattle.cbfs_types.specs.declared.Step.TheVariants.{Took, NoneLeft, Refused as StepRefused}
-use Rattle.cbfs_types.specs.declared.Found.TheVariants.{At, Refused as FoundRefused}
 
 -- t with its numbers counted from s.
 abbrev pub shifted : ℕ → Taken → Taken
@@ -41,12 +36,12 @@ module _ (i : List ℕ) (g : Region) where
 
   module _ (w : Bool) (n : ℕ) where
     pub step_sums : (t : Taken) → step_answer (region_bytes i g) g.align (step (pick_of w (region_bytes i g) g.align) (region_bytes i g) g.align n)
-        ≡ WalkTook t
+        ≡ Some t
         → (g.start + t.place ≤ length i) × (g.start + t.next ≤ length i)
     step_sums t s = let (e, o, q) =
         answer_some (region_bytes i g) g.align (step (pick_of w (region_bytes i g) g.align) (region_bytes i g) g.align n) t s in go e o q
       where
-        go : (e : Entry) → step (pick_of w (region_bytes i g) g.align) (region_bytes i g) g.align n ≡ some e → taken_of (region_bytes i g) g.align e ≡ t
+        go : (e : Entry) → step (pick_of w (region_bytes i g) g.align) (region_bytes i g) g.align n ≡ Some e → taken_of (region_bytes i g) g.align e ≡ t
             → (g.start + t.place ≤ length i) × (g.start + t.next ≤ length i)
         go e o q =
             subst (λ (x : Taken). (g.start + x.place ≤ length i) × (g.start + x.next ≤ length i)) q
@@ -54,35 +49,34 @@ module _ (i : List ℕ) (g : Region) where
 
   -- A step's answer, from the region's bytes to the image.
 
-  pub step_answer_took : (o : Option Entry) (t : Taken) {u : Taken} → step_answer (region_bytes i g) g.align o ≡ WalkTook t → u ≡ shifted g.start t
-      → Took u ≡ step_answer_in i g o
-  step_answer_took none t s r = let z : ◌≡◌ {A = ℕ} 0 1 = cc in absurd (omega arith)
-  step_answer_took (some e) t s r = let q : taken_of (region_bytes i g) g.align e ≡ t = cc in rw (r, ← q)
+  pub step_answer_took : (o : Option Entry) (t : Taken) {u : Taken} → step_answer (region_bytes i g) g.align o ≡ Some t → u ≡ shifted g.start t
+      → Some u ≡ step_answer_in i g o
+  step_answer_took None t s r = let z : ◌≡◌ {A = ℕ} 0 1 = cc in absurd (omega arith)
+  step_answer_took (Some e) t s r = let q : taken_of (region_bytes i g) g.align e ≡ t = cc in rw (r, ← q)
 
-  pub step_answer_none : (o : Option Entry) → step_answer (region_bytes i g) g.align o ≡ WalkNoneLeft → NoneLeft ≡ step_answer_in i g o
-  step_answer_none none s = refl
-  step_answer_none (some e) s = let z : ◌≡◌ {A = ℕ} 0 1 = cc in absurd (omega arith)
+  pub step_answer_none : (o : Option Entry) → step_answer (region_bytes i g) g.align o ≡ None → None ≡ step_answer_in i g o
+  step_answer_none None s = refl
+  step_answer_none (Some e) s = let z : ◌≡◌ {A = ℕ} 0 1 = cc in absurd (omega arith)
 
   -- A lookup's answer, from the region's bytes to the image.
 
-  pub found_at : (o : LookupResult) (t : Taken) {u : Taken} → bearer_answer (region_bytes i g) g.align o ≡ WalkAt t → u ≡ shifted g.start t
-      → At u ≡ find_answer_in i g o
+  pub found_at : (o : LookupResult) (t : Taken) {u : Taken} → bearer_answer (region_bytes i g) g.align o ≡ Ok t → u ≡ shifted g.start t
+      → Ok u ≡ find_answer_in i g o
   found_at (lookup_refused n) t s r = let z : ◌≡◌ {A = ℕ} 0 1 = cc in absurd (omega arith)
   found_at (lookup_gives e) t s r = let q : taken_of (region_bytes i g) g.align e ≡ t = cc in rw (r, ← q)
 
-  pub found_refused : (o : LookupResult) (n : ℕ) {x : Refusal} → bearer_answer (region_bytes i g) g.align o ≡ WalkRefused n → x ≡ refusal_by n
-      → FoundRefused x ≡ find_answer_in i g o
-  found_refused (lookup_refused m) n s r = let q : m ≡ n = cc in rw (r, q)
-  found_refused (lookup_gives e) n s r = let z : ◌≡◌ {A = ℕ} 0 1 = cc in absurd (omega arith)
+  pub found_refused : (o : LookupResult) (x : Refusal) → bearer_answer (region_bytes i g) g.align o ≡ Err x → Err x ≡ find_answer_in i g o
+  found_refused (lookup_refused m) x s = sym s
+  found_refused (lookup_gives e) x s = let z : ◌≡◌ {A = ℕ} 0 1 = cc in absurd (omega arith)
 
-  pub content_refused : (o : LookupResult) (n : ℕ) → bearer_answer (region_bytes i g) g.align o ≡ WalkRefused n → [] ≡ content_found o
+  pub content_refused : (o : LookupResult) (x : Refusal) → bearer_answer (region_bytes i g) g.align o ≡ Err x → [] ≡ content_found o
   content_refused (lookup_refused m) n s = refl
   content_refused (lookup_gives e) n s = let z : ◌≡◌ {A = ℕ} 0 1 = cc in absurd (omega arith)
 
   -- What was looked up is one of the listing.
   module _ (w : Bool) (o : LookupResult) (from : (e : Entry) → o ≡ lookup_gives e
       → Memᴰ e (listing (pick_of w (region_bytes i g) g.align) (region_bytes i g) g.align)) (t : Taken)
-      (s : bearer_answer (region_bytes i g) g.align o ≡ WalkAt t) where
+      (s : bearer_answer (region_bytes i g) g.align o ≡ Ok t) where
     pub found_sums : (g.start + t.place ≤ length i) × (g.start + t.next ≤ length i)
     found_sums = let (e, q, k) = found_some (region_bytes i g) g.align o t s in go e q k
       where
@@ -104,11 +98,11 @@ module _ (i : List ℕ) (g : Region) where
   -- The step's answer by the test of its number.
 
   pub refused_nine : (pick : ℕ → Option Component) (n : ℕ) {b : Bool} {x : Refusal} → b ≡ is_step_start g n → b ≡ false → x ≡ refusal_by 9
-      → StepRefused x ≡ step_by pick i g n
+      → Err x ≡ step_by pick i g n
   unfolding step_by
   refused_nine pick n e f r = rw (← e, f, r)
 
-  pub step_fit : (pick : ℕ → Option Component) (n : ℕ) {b : Bool} {x : Step} → b ≡ is_step_start g n → b ≡ true
-      → x ≡ step_answer_in i g (step pick (region_bytes i g) g.align (n - g.start)) → x ≡ step_by pick i g n
+  pub step_fit : (pick : ℕ → Option Component) (n : ℕ) {b : Bool} {x : Option Taken} → b ≡ is_step_start g n → b ≡ true
+      → x ≡ step_answer_in i g (step pick (region_bytes i g) g.align (n - g.start)) → Ok x ≡ step_by pick i g n
   unfolding step_by
-  step_fit pick n e f r = rw (← e, f) r
+  step_fit pick n e f r = rw (← e, f, r)

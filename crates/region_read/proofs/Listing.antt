@@ -7,7 +7,7 @@ use mathlib.Core.Path.{◌≡◌, refl, sym, ap, ◌∙◌}
 use mathlib.Core.List.{List, map}
 use mathlib.Core.Logic.{inl, inr}
 use mathlib.Core.Bool.{Bool, true}
-use mathlib.Core.Option.{Option, some, none}
+use Rattle.std.specs.Prelude.{Ok, Option, Some, None}
 use lib.ListN.{length, drop, length-take, length-drop}
 use borrow.Author.Tests.{eq-eqb}
 use Rattle.walk.specs.Walk.{Entry, pick_of, step, next, listing_from, listing, entry_end, PlaceOrPastEnd}
@@ -36,8 +36,8 @@ module _ (w : Bool) (i : List ℕ) (g : Region) (pos : 0 < g.align) (forward : g
       go (no l) = sym (fit_end g (g.start + n) (omega arith) (omega (arith, long)))
 
   step_there : (n : ℕ) → is_step_start g (g.start + n) ≡ true
-      → step_by (pick_of w (region_bytes i g) g.align) i g (g.start + n) ≡ step_answer_in i g
-      (step (pick_of w (region_bytes i g) g.align) (region_bytes i g) g.align n)
+      → step_by (pick_of w (region_bytes i g) g.align) i g (g.start + n) ≡ Ok (step_answer_in i g
+      (step (pick_of w (region_bytes i g) g.align) (region_bytes i g) g.align n))
   unfolding step_by
   step_there n f = rw (f, add-sub_cancel_left g.start n)
 
@@ -53,13 +53,13 @@ module _ (w : Bool) (i : List ℕ) (g : Region) (pos : 0 < g.align) (forward : g
       by : (o : Option Entry) → step (pick_of w (region_bytes i g) g.align) (region_bytes i g) g.align n ≡ o
           → Walked (step_by (pick_of w (region_bytes i g) g.align) i g) (g.start + n)
           (map (taken_in i g) (listing_from (pick_of w (region_bytes i g) g.align) (region_bytes i g) g.align n))
-      by none e =
+      by None e =
           rw (rest_none (pick_of w (region_bytes i g) g.align) (region_bytes i g) g.align n e)
-          (walk_ended (step_there n (fit_number n l s) ∙ ap (step_answer_in i g) e))
-      by (some t) e =
+          (walk_ended (step_there n (fit_number n l s) ∙ ap (λ o. Ok (step_answer_in i g o)) e))
+      by (Some t) e =
           let k = stands w (region_bytes i g) g.align n t e in
           rw (rest_some (pick_of w (region_bytes i g) g.align) (region_bytes i g) g.align pos (pick_fits w (region_bytes i g) g.align pos) n t e)
-          (walk_stepped (step_there n (fit_number n l s) ∙ ap (step_answer_in i g) e)
+          (walk_stepped (step_there n (fit_number n l s) ∙ ap (λ o. Ok (step_answer_in i g o)) e)
           (ih (next (region_bytes i g) g.align t) k.later (next_within (region_bytes i g) g.align t)
           (next_place_end (region_bytes i g) g.align (entry_end t))))
 

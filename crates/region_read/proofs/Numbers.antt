@@ -1,14 +1,14 @@
 -- Laws of the numbers to step from.
 use Prim.Native.Nat.{ℕ, ◌+◌, ◌-◌, ◌%◌, ◌≤◌, ◌<◌}
-use native.Mathlib.Nat.{mod-zero, add-mod, mod-mod, zero-add}
+use native.Mathlib.Nat.{add-mod, mod-mod, zero-add}
 use native.Mathlib.Omega.{arith}
-use mathlib.Core.Path.{◌≡◌, refl, sym, ◌∙◌}
+use mathlib.Core.Path.{◌≡◌, sym, ◌∙◌}
 use mathlib.Core.Logic.{◌↔◌}
-use mathlib.Core.Bool.{Bool, true, false, ◌||◌}
+use mathlib.Core.Bool.{Bool, true, ◌||◌}
 use mathlib.Core.List.{List, [], ◌∷◌}
 use lib.Dec.{leb, eqb}
-use borrow.Author.Tests.{leb-true, le-leb, lt-leb, eq-eqb, ne_eqb, eqb-true, eqb-false}
-use Rattle.bytes_read.proofs.Passing.{fails, passes, all_true_last}
+use borrow.Author.Tests.{leb-true, le-leb, eq-eqb, ne_eqb, eqb-true}
+use Rattle.bytes_read.proofs.Passing.{passes, all_true_last}
 use Rattle.cbfs_types.specs.declared.Region.{Region}
 use Rattle.region_read.specs.RegionRead.{is_step_start}
 
@@ -16,14 +16,6 @@ abbrev tests : Region → ℕ → List Bool
 tests g n = leb g.start n ∷ leb n g.end ∷ (eqb n g.end || eqb ((n - g.start) % g.align) 0) ∷ []
 
 module _ (g : Region) (n : ℕ) where
-  pub fit_low : n < g.start → false ≡ is_step_start g n
-  unfolding is_step_start
-  fit_low h = sym (fails 0 (tests g n) (lt-leb _ _ h))
-
-  pub fit_high : g.end < n → false ≡ is_step_start g n
-  unfolding is_step_start
-  fit_high h = sym (fails 1 (tests g n) (lt-leb _ _ h))
-
   pub fit_end : g.start ≤ n → n ≡ g.end → true ≡ is_step_start g n
   unfolding is_step_start
   fit_end l e = rw (le-leb _ _ l, le-leb n g.end (omega arith), eq-eqb _ _ e)
@@ -32,17 +24,6 @@ module _ (g : Region) (n : ℕ) where
   pub fit_place : g.start ≤ n → n ≤ g.end → (n ≡ g.end → ⊥) → eqb ((n - g.start) % g.align) 0 ≡ is_step_start g n
   unfolding is_step_start
   fit_place l h e = rw (le-leb _ _ l, le-leb _ _ h, ne_eqb _ _ e) (sym (all_true_last (eqb ((n - g.start) % g.align) 0)))
-
-  -- At an alignment of 0 only the start is one.
-  pub fit_zero : g.start ≤ n → n ≤ g.end → (n ≡ g.end → ⊥) → g.align ≡ 0 → eqb n g.start ≡ is_step_start g n
-  fit_zero l h e z = same (eqb n g.start) refl ∙ fit_place l h e
-    where
-      rest : (n - g.start) % g.align ≡ n - g.start
-      rest = rw (z, mod-zero (n - g.start))
-
-      same : (b : Bool) → eqb n g.start ≡ b → b ≡ eqb ((n - g.start) % g.align) 0
-      same true q = sym (eq-eqb ((n - g.start) % g.align) 0 (omega (arith, rest, eqb-true n g.start q)))
-      same false q = sym (ne_eqb ((n - g.start) % g.align) 0 (λ y. eqb-false n g.start q (omega (arith, rest, y))))
 
   -- A number to step from is not below the start, nor past the end.
   pub fit_from : is_step_start g n ≡ true → (g.start ≤ n) × (n ≤ g.end)

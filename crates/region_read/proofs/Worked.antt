@@ -5,18 +5,18 @@ use mathlib.Core.Bool.{Bool, true, false}
 use mathlib.Core.List.{List, [], ◌∷◌, ◌++◌, map}
 use lib.ListN.{replicate}
 use Rattle.bytes_read.specs.Bytes.{part_of}
-use Rattle.bytes_read.specs.Lists.{any}
 use Rattle.walk.specs.Walk.{place_count_below, places, magic_at, magic_inside, plain_pick, unless, guarded_pick, or_else, first, step, next_place}
 use Rattle.region.specs.Region.{region_bytes, refusal_by}
 use Rattle.cbfs_types.specs.declared.Region.{Region}
 use Rattle.region_read.specs.RegionRead.{is_step_start, step_by, step_in, from_place, name_at_in, content_at_in}
-use Rattle.cbfs_types.specs.declared.Step.{Step}
-use Rattle.cbfs_types.specs.declared.Step.TheVariants.{Took, NoneLeft, Refused}
+use Rattle.std.specs.Prelude.{Option, Some, None, Result, Ok, Err}
+use Rattle.cbfs_types.specs.declared.Taken.{Taken}
+use Rattle.cbfs_types.specs.declared.Refusal.{Refusal}
 use Rattle.component.proofs.Opened.{judge_definitions}
 
 -- What is computed below.
 unfoldable opened : ℕ
-unfolding judge_definitions part_of any place_count_below places magic_at magic_inside plain_pick unless guarded_pick or_else first step next_place region_bytes
+unfolding judge_definitions part_of place_count_below places magic_at magic_inside plain_pick unless guarded_pick or_else first step next_place region_bytes
     is_step_start step_by from_place
 opened = 0
 
@@ -30,16 +30,22 @@ image =
 abbrev region : Region
 region = record { start = 32; end = 104; align = 16 }
 
+abbrev Step : Type 0
+Step = Result (Option Taken) Refusal
+
 abbrev taken : Step
-taken = Took (record { place = 48; header = record { offset = 40; len = 2; kind = 0x50; checksum = 825; namelen = 1 }; next = 96 })
+taken = Ok (Some (record { place = 48; header = record { offset = 40; len = 2; kind = 0x50; checksum = 825; namelen = 1 }; next = 96 }))
 
 abbrev nine : Step
-nine = Refused (refusal_by 9)
+nine = Err (refusal_by 9)
+
+abbrev none_left : Step
+none_left = Ok None
 
 -- From the start and from the component's place it is taken; from the next place on, and from the end, none is left.
 -- Below the start, past the end, and between two places: 9, multiples of 16 too.
 steps : (w : Bool) → map (step_in w image region) (16 ∷ 31 ∷ 32 ∷ 33 ∷ 40 ∷ 48 ∷ 64 ∷ 96 ∷ 103 ∷ 104 ∷ 105 ∷ 112 ∷ [])
-    ≡ nine ∷ nine ∷ taken ∷ nine ∷ nine ∷ taken ∷ NoneLeft ∷ NoneLeft ∷ nine ∷ NoneLeft ∷ nine ∷ nine ∷ []
+    ≡ nine ∷ nine ∷ taken ∷ nine ∷ nine ∷ taken ∷ none_left ∷ none_left ∷ nine ∷ none_left ∷ nine ∷ nine ∷ []
 unfolding opened
 steps true = refl
 steps false = refl

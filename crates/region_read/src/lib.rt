@@ -2,29 +2,20 @@
 // Every function takes any image and any numbers; a region that does not fit the image is empty.
 #![tactic(auto)]
 
-ghost use Rattle.std.specs.Prelude.{◌≡◌, ◌+◌, ◌≤◌, drop};
+ghost use Rattle.std.specs.Prelude.{◌≡◌, ◌+◌, ◌%◌, ◌≤◌, drop, eqb};
 ghost use Rattle.region_read.specs.RegionRead.{is_step_start, step_in, find_in, content_found_in, from_place, name_at_in, content_at_in};
 ghost use Rattle.bytes_read.specs.Bytes.{part_of};
 
-use cbfs_types::{Found, Refusal, Region, Step, Taken};
+use cbfs_types::{Refusal, Region, Taken};
 
 // n is a number to step from: at the region's end, or a place of the region.
+#[tactic(auto, unfolding(crate::specs::RegionRead::is_step_start))]
 pub fn is_step_start(region: Region, n: usize) -> bool
     ensures { result ≡ is_step_start region n }
 {
-    if n < region.start {
-        return false;
-    }
-    if region.end < n {
-        return false;
-    }
-    if n == region.end {
-        return true;
-    }
-    if region.align == 0 {
-        return n == region.start;
-    }
-    (n - region.start) % region.align == 0
+    region.start <= n
+        && n <= region.end
+        && (n == region.end || (n - region.start).is_multiple_of(region.align))
 }
 
 // A component with its place and the number to go on from counted from `start`.
@@ -32,44 +23,44 @@ fn shift(start: usize, t: Taken) -> Taken
     requires { (start + t.place ≤ 18446744073709551615) × (start + t.next ≤ 18446744073709551615) }
     ensures { result ≡ record { place = start + t.place; header = t.header; next = start + t.next } }
 {
-    let h = t.header;
     Taken {
         place: start + t.place,
-        header: h,
         next: start + t.next,
+        ..t
     }
 }
 
 // The first component that a walk begun at `from` takes, the guarded walk or the plain one; refusal 9 where `from` is no number to step from.
-pub fn step_in(guarded: bool, image: &[u8], region: Region, from: usize) -> Step
+pub fn step_in(
+    guarded: bool,
+    image: &[u8],
+    region: Region,
+    from: usize,
+) -> Result<Option<Taken>, Refusal>
     ensures value { result ≡ step_in guarded image.now region from }
     ensures kept { image.exit.now ≡ image.entry.now }
 {
     if !is_step_start(region, from) {
-        return Step::Refused(region::refusal_by(9));
+        return Err(region::refusal_by(9));
     }
-    let s = walk::walk_step(
+    match walk::walk_step(
         guarded,
         region::bytes(image, region),
         region.align,
         from - region.start,
-    );
-    match s {
-        walk::WalkStep::Took(t) => Step::Took(shift(region.start, t)),
-        walk::WalkStep::NoneLeft => Step::NoneLeft,
+    ) {
+        Some(t) => Ok(Some(shift(region.start, t))),
+        None => Ok(None),
     }
 }
 
 // The only bearer of the name in the guarded listing, or the first in the plain one; or refusal 10 or 11.
-pub fn find_in(guarded: bool, image: &[u8], region: Region, name: &[u8]) -> Found
+pub fn find_in(guarded: bool, image: &[u8], region: Region, name: &[u8]) -> Result<Taken, Refusal>
     ensures value { result ≡ find_in guarded image.now region name.now }
     ensures kept { (image.exit.now ≡ image.entry.now) × (name.exit.now ≡ name.entry.now) }
 {
-    let f = walk_lookup::find(guarded, region::bytes(image, region), region.align, name);
-    match f {
-        walk_lookup::BearerSearch::At(t) => Found::At(shift(region.start, t)),
-        walk_lookup::BearerSearch::Refused(n) => Found::Refused(region::refusal_by(n)),
-    }
+    let t = walk_lookup::find(guarded, region::bytes(image, region), region.align, name)?;
+    Ok(shift(region.start, t))
 }
 
 // The content of a component of the region's bytes, as a part of them.
@@ -91,10 +82,9 @@ pub fn content_found_in<'a, 'b>(
     ensures kept { (image.exit.now ≡ image.entry.now) × (name.exit.now ≡ name.entry.now) }
 {
     let bytes = region::bytes(image, region);
-    let f = walk_lookup::find(guarded, bytes, region.align, name);
-    match f {
-        walk_lookup::BearerSearch::At(t) => content_of(bytes, t),
-        walk_lookup::BearerSearch::Refused(_) => &image[0..0],
+    match walk_lookup::find(guarded, bytes, region.align, name) {
+        Ok(t) => content_of(bytes, t),
+        Err(_) => &image[0..0],
     }
 }
 

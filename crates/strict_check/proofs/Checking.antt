@@ -6,7 +6,8 @@ use mathlib.Core.Path.{◌≡◌, refl, sym, ap, ◌∙◌}
 use mathlib.Core.List.{List, [], ◌∷◌, ◌++◌, append-nil, append_assoc}
 use mathlib.Core.Logic.{inl, inr}
 use mathlib.Core.Bool.{true}
-use mathlib.Core.Option.{some, none, some-injective, none-ne-some, some-ne-none}
+use Rattle.std.specs.Prelude.{Some, None}
+use Rattle.std.proofs.lemmas.Option.{same_Some, none-some}
 use lib.ListN.{length, drop, length-append}
 use Rattle.component.specs.Component.{Component, span_length, judge}
 use Rattle.walk.specs.Walk.{Entry, magic_at, next_magic, next_place, plain_listing, Place, PlaceOrPastEnd}
@@ -18,20 +19,20 @@ use Rattle.strict_rules.proofs.Untaken.{next_place_behind, first_search, first_i
 
 -- The lowest of the untaken places decides.
 
-pub untaken_verdict : (most : ℕ) (r : List ℕ) (a p : ℕ) → first_untaken r a 0 ≡ some p → verdict most r a ≡ check_refused 12 p
+pub untaken_verdict : (most : ℕ) (r : List ℕ) (a p : ℕ) → first_untaken r a 0 ≡ Some p → verdict most r a ≡ check_refused 12 p
 unfolding verdict
 untaken_verdict most r a p e = rw (untaken_from_lem r a) (go (untaken_from r a 0) e)
   where
-    go : (l : List ℕ) → lowest l ≡ some p → verdict_on most l (plain_listing r a) ≡ check_refused 12 p
-    go [] q = absurd (none-ne-some p (unfold lowest in q))
-    go (x ∷ xs) q = unfold verdict_on in ap (λ (n : ℕ). check_refused 12 n) (some-injective x p (unfold lowest in q))
+    go : (l : List ℕ) → lowest l ≡ Some p → verdict_on most l (plain_listing r a) ≡ check_refused 12 p
+    go [] q = absurd (none-some p (unfold lowest in q))
+    go (x ∷ xs) q = unfold verdict_on in ap (λ (n : ℕ). check_refused 12 n) (same_Some x p (unfold lowest in q))
 
-pub none_untaken : (r : List ℕ) (a : ℕ) → first_untaken r a 0 ≡ none → untaken_places r a ≡ []
+pub none_untaken : (r : List ℕ) (a : ℕ) → first_untaken r a 0 ≡ None → untaken_places r a ≡ []
 none_untaken r a e = untaken_from_lem r a ∙ go (untaken_from r a 0) e
   where
-    go : (l : List ℕ) → lowest l ≡ none → l ≡ []
+    go : (l : List ℕ) → lowest l ≡ None → l ≡ []
     go [] q = refl
-    go (x ∷ xs) q = absurd (some-ne-none x (unfold lowest in q))
+    go (x ∷ xs) q = absurd (none-some x (sym (unfold lowest in q)))
 
 -- Before p nothing is untaken, and the plain listing has what is done and what it has from p on. In the region p is a place with the magic.
 -- No more is done than there are bytes before p.
@@ -66,14 +67,14 @@ module _ (r : List ℕ) (a : ℕ) (done : List Entry) (p : ℕ) (inv : Checked r
     pos = (inv.found inside).0
 
     -- An ill-formed header is untaken.
-    pub checked_ill : judge (drop p r) ≡ none → (most : ℕ) → verdict most r a ≡ check_refused 12 p
+    pub checked_ill : judge (drop p r) ≡ None → (most : ℕ) → verdict most r a ≡ check_refused 12 p
     checked_ill ill most = untaken_verdict most r a p (inv.none_untaken ∙ first_ill r a pos p (inv.found inside).1 inside (inv.found inside).2 ill)
 
-    module _ (c : Component) (well : judge (drop p r) ≡ some c) (e : ℕ) (ends : e ≡ p + span_length c) where
+    module _ (c : Component) (well : judge (drop p r) ≡ Some c) (e : ℕ) (ends : e ≡ p + span_length c) where
       -- A magic inside a span is untaken.
       pub checked_inside : (q : ℕ) → q ≡ next_magic r a (p + a) e → q < e → (most : ℕ) → verdict most r a ≡ check_refused 12 q
       checked_inside q h l most = untaken_verdict most r a q
-          (inv.none_untaken ∙ first_inside r a pos p (inv.found inside).1 inside (inv.found inside).2 c well e ends (omega arith) ∙ ap some (sym h))
+          (inv.none_untaken ∙ first_inside r a pos p (inv.found inside).1 inside (inv.found inside).2 c well e ends (omega arith) ∙ ap Some (sym h))
 
       -- The next magic lies behind p.
       pub checked_later : p < next_magic r a (next_place r a e) (length r)

@@ -6,11 +6,11 @@ use native.Mathlib.Omega.{arith}
 use mathlib.Core.Path.{◌≡◌, refl, sym, ap, ◌∙◌}
 use mathlib.Core.List.{List, [], ◌∷◌, ◌++◌, map, Memᴰ}
 use mathlib.Core.Bool.{Bool, true, false, not, ◌&&◌, ◌||◌, true≢false}
-use mathlib.Core.Option.{Option, some, none}
-use lib.ListN.{length, take, drop, get_or, length-append, length-map}
+use Rattle.std.specs.Prelude.{Option, Some, None}
+use lib.ListN.{length, take, drop, get_or, length-append, length-map, length-drop}
 use lib.Dec.{eqb}
 use borrow.Author.Tests.{eq-eqb, ne_eqb}
-use lib.Seq.{drop-cons}
+use lib.Seq.{drop-cons, get_or-drop}
 use Rattle.bytes_read.specs.Number.{le}
 use Rattle.bytes_read.specs.Bytes.{eq_bytes}
 use Rattle.bytes_read.proofs.SameBytes.{eq_true}
@@ -36,16 +36,13 @@ window_end ps k n h = let e : n - k ≡ 0 = omega arith in rw e
 -- Does one of them bear the name?
 
 pub any_here : (f : ℕ → Bool) (ps : List ℕ) (k n : ℕ) → k < n → n ≤ length ps → f (get_or ps k 0) ≡ true → any f (take (n - k) (drop k ps)) ≡ true
-unfolding any
 any_here f ps k n h l y = rw (window_cons ps k n h l, y)
 
 pub any_on : (f : ℕ → Bool) (ps : List ℕ) (k n : ℕ) → k < n → n ≤ length ps → f (get_or ps k 0) ≡ false
     → any f (take (n - k) (drop k ps)) ≡ any f (take (n - (k + 1)) (drop (k + 1) ps))
-unfolding any
 any_on f ps k n h l y = rw (window_cons ps k n h l, y)
 
 pub any_end : (f : ℕ → Bool) (ps : List ℕ) (k n : ℕ) → n ≤ k → any f (take (n - k) (drop k ps)) ≡ false
-unfolding any
 any_end f ps k n h = rw (window_end ps k n h)
 
 -- The same where the search goes on after it has found one: b says whether it has.
@@ -120,13 +117,13 @@ distinct_before r ps n l (suc i) h e =
 
 -- Components whose headers' numbers stand at their places. Where the listing has a component, they do.
 abbrev pub Judged : List ℕ → List Entry → Type 0
-Judged r l = (e : Entry) → Memᴰ e l → judge_numbers (drop e.place r) ≡ some e.component
+Judged r l = (e : Entry) → Memᴰ e l → judge_numbers (drop e.place r) ≡ Some e.component
 
 pub listed : (r : List ℕ) (a : ℕ) → Judged r (plain_listing r a)
 listed r a e m = judge_by_numbers (drop e.place r) e.component (given false r a e m).judged
 
 pub same_any : (r name : List ℕ) (l : List Entry) → Judged r l → any (has_name r name) (component_places l) ≡ any (bears name) l
-unfolding any has_name bears
+unfolding has_name bears
 same_any r name [] j = refl
 same_any r name (e ∷ l) j = rw (j e (Memᴰ.head refl), same_any r name l (λ x m. j x (Memᴰ.tail m)))
 
@@ -146,6 +143,22 @@ pub digest_on : (s : List ℕ) (m i h : ℕ) → 8 ≤ m → digest_from (m / 8)
 unfolding digest_from
 digest_on s m i h l = let e : m / 8 ≡ suc ((m - 8) / 8) = omega arith in rw e
 
+-- Counted from a later byte on.
+
+le_drop : (w : ℕ) (s : List ℕ) (k i : ℕ) → le w s (k + i) ≡ le w (drop k s) i
+unfolding le
+le_drop zero s k i = refl
+le_drop (suc w) s k i =
+    let e : k + i + 1 ≡ k + (i + 1) = omega arith in
+    rw (e, le_drop w s k (i + 1), get_or-drop k s i 0)
+
+digest_drop : (n h : ℕ) (s : List ℕ) (k i : ℕ) → digest_from n h s (k + i) ≡ digest_from n h (drop k s) i
+unfolding digest_from
+digest_drop zero h s k i = ap (hash_step h) (le_drop 8 s k i)
+digest_drop (suc n) h s k i =
+    let e : k + i + 8 ≡ k + (i + 8) = omega arith in
+    rw (e, le_drop 8 s k i) (digest_drop n (hash_step h (le 8 (drop k s) i)) s k (i + 8))
+
 pub digest_end : (s : List ℕ) (m i h : ℕ) → m < 8 → digest_from (m / 8) h s i ≡ hash_step h (le 8 s i)
 unfolding digest_from
 digest_end s m i h l = let e : m / 8 ≡ 0 = omega arith in rw e
@@ -158,6 +171,17 @@ digest_two s m i h l =
     let e : m - 8 - 8 ≡ m - 16 = omega arith in
     let f : i + 8 + 8 ≡ i + 16 = omega arith in
     digest_on s m i h (omega arith) ∙ digest_on s (m - 8) (i + 8) (hash_step h (le 8 s i)) (omega arith) ∙ rw (e, f)
+
+-- One word taken off the front, and two.
+
+pub digest_front : (s : List ℕ) (h : ℕ) → 8 ≤ length s
+    → digest_from (length s / 8) h s 0 ≡ digest_from (length (drop 8 s) / 8) (hash_step h (le 8 s 0)) (drop 8 s) 0
+digest_front s h l = digest_on s (length s) 0 h l ∙ rw (length-drop 8 s) (digest_drop ((length s - 8) / 8) (hash_step h (le 8 s 0)) s 8 0)
+
+pub digest_front_two : (s : List ℕ) (h : ℕ) → 16 ≤ length s
+    → digest_from (length s / 8) h s 0 ≡ digest_from (length (drop 16 s) / 8) (hash_step (hash_step h (le 8 s 0)) (le 8 s 8)) (drop 16 s) 0
+digest_front_two s h l =
+    digest_two s (length s) 0 h l ∙ rw (length-drop 16 s) (digest_drop ((length s - 16) / 8) (hash_step (hash_step h (le 8 s 0)) (le 8 s 8)) s 16 0)
 
 -- The remainder may be left until after the second word.
 pub hash_twice : (h a b c d : ℕ)
@@ -202,8 +226,8 @@ named_not r name p h = go (judge_numbers (drop p r)) h
     by c k false e = refl
 
     go : (o : Option Component) → (digest_of (name_of o) ≡ digest_of name → ⊥) → bears_name name o ≡ false
-    go none k = refl
-    go (some c) k = by c k (eq_bytes c.name name) refl
+    go None k = refl
+    go (Some c) k = by c k (eq_bytes c.name name) refl
 
 -- Where no digest from k up to n agrees, no name does.
 pub none_shared : (r places l name : List ℕ) (k n asked : ℕ) → k ≤ n → NameDigests r places n l → asked ≡ digest_of name

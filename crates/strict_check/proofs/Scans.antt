@@ -4,17 +4,16 @@ use native.Mathlib.Nat.{zero-add}
 use native.Mathlib.Omega.{arith}
 use mathlib.Core.Path.{◌≡◌, refl, sym, ap, ◌∙◌}
 use mathlib.Core.List.{List, [], ◌∷◌, ◌++◌}
-use mathlib.Core.Option.{some}
+use Rattle.std.specs.Prelude.{Ok, Err, Some, None}
 use lib.ListN.{length, drop, set, length-append, length-set}
 use Rattle.bytes_read.specs.Bytes.{part_of}
 use Rattle.component.specs.Component.{Component, span_length, judge, judged, header_of, name_of}
 use Rattle.cbfs_types.specs.declared.Header.{Header}
-use Rattle.component.specs.declared.Judged.TheVariants.{WellFormed, IllFormed}
 use Rattle.component.proofs.Judging.{judged_some, judged_none, part_name}
 use Rattle.walk.specs.Walk.{Entry, next_magic, next_place, plain_listing}
 use Rattle.walk.proofs.Stepping.{header_fits}
 use Rattle.strict_rules.specs.Strict.{untaken_places, check_refused, verdict}
-use Rattle.strict_check.specs.StrictCheck.{digest_of, entry_place, entry_digest, store_all}
+use Rattle.strict_check.specs.StrictCheck.{digest_of, entry_place, entry_digest, store_all, Scanned}
 use Rattle.strict_check.proofs.Checking.{Checked, checked_start, checked_ill, checked_inside, checked_on, checked_later, checked_end}
 use Rattle.strict_check.proofs.Directories.{fill_snoc}
 
@@ -38,6 +37,22 @@ pub record Scanning (r : List ℕ) (a : ℕ) (d₀ d e₀ e : List ℕ) (n p : �
   pub stored : Stored entry_place d₀ d done
   pub digested : Stored entry_digest e₀ e done
 
+-- The answer of the pass.
+
+pub untaken_at : {r : List ℕ} {a : ℕ} {d d' e e' : List ℕ} {p : ℕ} → ((most : ℕ) → verdict most r a ≡ check_refused 12 p) × (p < length r)
+    → Scanned r a d d' e e' (Err p)
+untaken_at {r} {a} {d} {d'} {e} {e'} {p} h = record {
+  untaken = λ q s. let y : p ≡ q = cc in rw (← y) h;
+  none_untaken = λ n s. let z : ◌≡◌ {A = ℕ} 0 1 = cc in absurd (omega arith);
+}
+
+pub none_untaken_lem : {r : List ℕ} {a : ℕ} {d d' e e' : List ℕ} {n : ℕ} → (untaken_places r a ≡ []) × (n ≡ length (plain_listing r a))
+    × (d' ≡ store_all entry_place d 0 (plain_listing r a)) × (e' ≡ store_all entry_digest e 0 (plain_listing r a)) → Scanned r a d d' e e' (Ok n)
+none_untaken_lem {r} {a} {d} {d'} {e} {e'} {n} h = record {
+  untaken = λ q s. let z : ◌≡◌ {A = ℕ} 0 1 = cc in absurd (omega arith);
+  none_untaken = λ m s. let y : n ≡ m = cc in rw (← y) h;
+}
+
 pub scan_start : (r : List ℕ) (a : ℕ) (d e : List ℕ) (p : ℕ) → p ≡ next_magic r a 0 (length r) → Scanning r a d d e e 0 p
 unfolding store_all
 scan_start r a d e p q = record { done = []; checked = checked_start r a p q; count = refl; stored = (refl, refl); digested = (refl, refl) }
@@ -53,10 +68,10 @@ module _ {r : List ℕ} {a : ℕ} {d₀ d e₀ e : List ℕ} {n p : ℕ} (inv : 
       rw q.1 (q.0, inv.count, inv.stored.0, inv.digested.0)
 
   module _ (inside : p < length r) where
-    pub scan_ill : judged (judge (drop p r)) ≡ IllFormed → (most : ℕ) → verdict most r a ≡ check_refused 12 p
+    pub scan_ill : judged (judge (drop p r)) ≡ None → (most : ℕ) → verdict most r a ≡ check_refused 12 p
     scan_ill s = checked_ill r a inv.done p inv.checked inside (judged_none (judge (drop p r)) s)
 
-    module _ {h : Header} (said : judged (judge (drop p r)) ≡ WellFormed h) where
+    module _ {h : Header} (said : judged (judge (drop p r)) ≡ Some h) where
       ends : (c : Component) → header_of c ≡ h → p + (h.offset + h.len) ≡ p + span_length c
       ends c q = ap (λ (x : Header). p + (x.offset + x.len)) (sym q)
 
@@ -70,7 +85,7 @@ module _ {r : List ℕ} {a : ℕ} {d₀ d e₀ e : List ℕ} {n p : ℕ} (inv : 
           → d' ≡ set d n p → e' ≡ set e n (digest_of (part_of (drop p r) 24 h.namelen)) → Scanning r a d₀ d' e₀ e' (n + 1) p'
       scan_on q m p' d' e' f l g k s z = let (c, j, y) = judged_some (judge (drop p r)) h said in go c j y
         where
-          go : (c : Component) → judge (drop p r) ≡ some c → header_of c ≡ h → Scanning r a d₀ d' e₀ e' (n + 1) p'
+          go : (c : Component) → judge (drop p r) ≡ Some c → header_of c ≡ h → Scanning r a d₀ d' e₀ e' (n + 1) p'
           go c j y =
               let t : Entry = record { place = p; component = c } in
               let end : ℕ = p + (h.offset + h.len) in

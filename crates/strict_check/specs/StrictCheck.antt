@@ -1,34 +1,29 @@
 -- The directory that the strict check answers (document 01 and request 6: 1,024 places, unused ones holding zero, and a count), and the steps towards it.
-use Rattle.std.specs.Prelude.{ℕ, zero, suc, ◌+◌, ◌-◌, ◌*◌, ◌/◌, ◌%◌, ◌≤◌, ◌<◌, min, ◌≡◌, List, [], ◌∷◌, ◌++◌, map, Bool, true, false, cond, ◌⊎◌, length, get_or, take, drop, set, replicate, eqb}
+use Rattle.std.specs.Prelude.{ℕ, zero, suc, ◌+◌, ◌-◌, ◌*◌, ◌/◌, ◌%◌, ◌≤◌, ◌<◌, min, ◌≡◌, List, [], ◌∷◌, ◌++◌, map, Bool, false, ◌⊎◌, length}
+use Rattle.std.specs.Prelude.{get_or, take, drop, set, replicate, Result, Ok, Err}
 use Rattle.component.specs.Component.{judge_numbers, name_of, bears_name}
 use Rattle.bytes_read.specs.Number.{le}
 use Rattle.bytes_read.specs.Lists.{any, no_two, padded}
 use Rattle.walk.specs.Walk.{Entry, plain_listing}
-use Rattle.region.specs.Region.{region_bytes}
+use Rattle.region.specs.Region.{region_bytes, refusal_in}
 use Rattle.cbfs_types.specs.declared.Region.{Region}
 use Rattle.strict_rules.specs.Strict.{component_limit, Verdict, check_refused, check_accepted, untaken_places, verdict}
 use Rattle.cbfs_types.specs.declared.Directory.{Directory}
-use Rattle.strict_check.specs.declared.CheckSummary.{CheckSummary}
-use Rattle.strict_check.specs.declared.Scan.{Scan}
+use Rattle.cbfs_types.specs.declared.Refusal.{Refusal}
 
 -- A directory of so many places, none of them in use.
 unfoldable pub zero_places : ℕ → List ℕ
 zero_places most = replicate most 0
 
--- A refusal has its number and its place, and zeros elsewhere.
-abbrev pub refused_directory : ℕ → ℕ → ℕ → Directory
-refused_directory most n p = record { number = n; place = p; count = 0; places = zero_places most }
-
 -- The verdict on a region that begins at s, where at most that many components are allowed, its places counted from the image's start.
--- Only 12 reports a place.
-abbrev pub directory_answer : ℕ → ℕ → Verdict → Directory
-directory_answer most s (check_refused n p) = refused_directory most n (cond (eqb n 12) (s + p) 0)
-directory_answer most s (check_accepted ps) = record { number = 0; place = 0; count = length ps; places = padded most 0 (map (λ p. s + p) ps) }
+abbrev pub directory_answer : ℕ → ℕ → Verdict → Result Directory Refusal
+directory_answer most s (check_refused n p) = Err (refusal_in s n p)
+directory_answer most s (check_accepted ps) = Ok (record { count = length ps; places = padded most 0 (map (λ p. s + p) ps) })
 
--- The same without the places.
-abbrev pub check_summary : ℕ → Verdict → CheckSummary
-check_summary s (check_refused n p) = record { number = n; place = cond (eqb n 12) (s + p) 0; count = 0 }
-check_summary s (check_accepted ps) = record { number = 0; place = 0; count = length ps }
+-- The same without the places: how many components there are.
+abbrev pub check_summary : ℕ → Verdict → Result ℕ Refusal
+check_summary s (check_refused n p) = Err (refusal_in s n p)
+check_summary s (check_accepted ps) = Ok (length ps)
 
 -- The verdict on the region g of the image i, where an array d is lent for the places: as many components are allowed as it has room for, and
 -- `component_limit` at most.
@@ -39,6 +34,11 @@ verdict_in d i g = verdict (min (length d) component_limit) (region_bytes i g) g
 abbrev pub stored_places : List ℕ → Verdict → List ℕ
 stored_places d (check_refused n p) = replicate (length d) 0
 stored_places d (check_accepted ps) = ps ++ drop (length ps) d
+
+-- The same, but that of a refusal nothing is said: d' is what the array holds.
+abbrev pub IsStored : List ℕ → List ℕ → Verdict → Type 0
+IsStored d d' (check_refused n p) = length d' ≡ length d
+IsStored d d' (check_accepted ps) = d' ≡ ps ++ drop (length ps) d
 
 -- The name of the component at the place p, by its header's numbers: where the listing has one there, its sum was taken already. Empty where none stands.
 abbrev pub name_by_numbers : List ℕ → ℕ → List ℕ
@@ -78,9 +78,9 @@ store_all f d n (t ∷ ts) = store_all f (set d n (f t)) (n + 1) ts
 
 -- What one pass over the region says: the lowest untaken place; or that there is none, how many components there are, their places over
 -- what the array d held, and the digests of their names over what the array e held.
-pub record Scanned (r : List ℕ) (a : ℕ) (d d' e e' : List ℕ) (s : Scan) : Type 0 where
-  pub untaken : s.untaken ≡ true → ((most : ℕ) → verdict most r a ≡ check_refused 12 s.place) × (s.place < length r)
-  pub none_untaken : s.untaken ≡ false → (untaken_places r a ≡ []) × (s.count ≡ length (plain_listing r a))
+pub record Scanned (r : List ℕ) (a : ℕ) (d d' e e' : List ℕ) (s : Result ℕ ℕ) : Type 0 where
+  pub untaken : (p : ℕ) → s ≡ Err p → ((most : ℕ) → verdict most r a ≡ check_refused 12 p) × (p < length r)
+  pub none_untaken : (n : ℕ) → s ≡ Ok n → (untaken_places r a ≡ []) × (n ≡ length (plain_listing r a))
       × (d' ≡ store_all entry_place d 0 (plain_listing r a)) × (e' ≡ store_all entry_digest e 0 (plain_listing r a))
 
 -- The component at the place p, by its header's numbers, bears the name.

@@ -7,7 +7,7 @@ use mathlib.Core.Path.{◌≡◌, refl, sym, ap, ◌∙◌}
 use mathlib.Core.List.{List, [], ◌∷◌, Memᴰ}
 use mathlib.Core.Logic.{◌↔◌}
 use mathlib.Core.Bool.{Bool, true, false, not, ◌&&◌}
-use mathlib.Core.Option.{some}
+use Rattle.std.specs.Prelude.{Some}
 use lib.ListN.{length}
 use lib.Dec.{eqb}
 use borrow.Author.Tests.{eqb-true, eq-eqb, not-false}
@@ -79,7 +79,7 @@ module _ (r : List ℕ) (a : ℕ) (pos : 0 < a) where
             let (u, n, at) = caught q ql e in
             absurd (omega (arith, at, listing-disjoint (plain_pick r) r a pos (pick_fits false r a pos) t u m n (omega (arith, at))))
 
-    listed_guarded : (t : Entry) → Memᴰ t (plain_listing r a) → guarded_pick r a t.place ≡ some t.component
+    listed_guarded : (t : Entry) → Memᴰ t (plain_listing r a) → guarded_pick r a t.place ≡ Some t.component
     listed_guarded t m =
         let l = mem_listing (plain_pick r) r a pos (pick_fits false r a pos) t m in
         guarded_of r a pos t.place t.component l.taken

@@ -33,7 +33,7 @@ module _ (bearing corrupted : Entry → Bool) where
   -- With no bearer outside, a bearer before the list is the only one exactly if none is corrupted.
   more : (l : List Entry) → filter bearing (filter (λ u. not (corrupted u)) l) ≡ [] → (y : Entry)
       → only_or_refused (y ∷ filter bearing l) ≡ cond (any bearing (filter corrupted l)) (lookup_refused 11) (lookup_gives y)
-  unfolding filter any only_or_refused
+  unfolding filter only_or_refused
   more [] e y = refl
   more (x ∷ xs) e y = go (corrupted x) refl (bearing x) refl (λ e'. more xs e' y)
     where
@@ -48,7 +48,7 @@ module _ (bearing corrupted : Entry → Bool) where
 
   pub only_one : (l : List Entry) (t : Entry) → filter bearing (filter (λ u. not (corrupted u)) l) ≡ t ∷ []
       → only_or_refused (filter bearing l) ≡ cond (any bearing (filter corrupted l)) (lookup_refused 11) (lookup_gives t)
-  unfolding filter any
+  unfolding filter
   only_one [] t e = absurd (nil≢cons e)
   only_one (x ∷ xs) t e = go (corrupted x) refl (bearing x) refl (λ e'. only_one xs t e')
     where

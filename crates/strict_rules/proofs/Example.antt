@@ -12,7 +12,7 @@ use borrow.Author.Tests.{lt-ltb, le-leb}
 use Rattle.bytes_read.specs.Number.{be_bytes}
 use Rattle.bench_image.specs.BenchImage.{larchive, cal, head, slot0, slot192, region, region_a, region500, region_twice, region_summed}
 use Rattle.bytes_read.specs.Bytes.{eq_bytes}
-use Rattle.bytes_read.specs.Lists.{any, filter, no_two}
+use Rattle.bytes_read.specs.Lists.{filter, no_two}
 use Rattle.walk.specs.Walk.{Entry, place_count_below, places, magic_at, magic_inside, plain_pick, unless, guarded_pick, or_else, first, step, next_place, follow, steps}
 use Rattle.walk.specs.Walk.{listing_from, plain_listing, guarded_listing}
 use Rattle.walk_lookup.specs.Lookup.{bears, only_or_refused, lookup_gives, guarded_lookup}
@@ -31,7 +31,7 @@ entry = stating 0
 
 -- What is computed below.
 unfoldable opened : ℕ
-unfolding judge_definitions larchive cal head slot0 slot192 region stating any filter place_count_below places magic_at magic_inside plain_pick guarded_pick unless
+unfolding judge_definitions larchive cal head slot0 slot192 region stating filter place_count_below places magic_at magic_inside plain_pick guarded_pick unless
     or_else first step
     next_place follow steps listing_from bears lists_place is_untaken untaken_places no_two verdict_on verdict
 opened = 0
@@ -85,13 +85,13 @@ verdict_order = refl
 -- 1,024 components are allowed, and 1,025 are not: with names that are all alike, 11 is given for 1,024, and 13, which comes first, for 1,025.
 limits : verdict_on component_limit [] (replicate 1024 (entry 0 0x32 0)) ∷ verdict_on component_limit [] (replicate 1025 (entry 0 0x32 0)) ∷ []
     ≡ check_refused 11 0 ∷ check_refused 13 0 ∷ []
-unfolding verdict_on no_two any bears eq_bytes cal stating
+unfolding verdict_on no_two bears eq_bytes cal stating
 limits = refl
 
 -- With document 01's limit, 256 were allowed, and 257 were not.
 limits_before : verdict_on 256 [] (replicate 256 (entry 0 0x32 0)) ∷ verdict_on 256 [] (replicate 257 (entry 0 0x32 0)) ∷ [] ≡ check_refused 11 0
     ∷ check_refused 13 0 ∷ []
-unfolding verdict_on no_two any bears eq_bytes cal stating
+unfolding verdict_on no_two bears eq_bytes cal stating
 limits_before = refl
 
 -- The guarded walk lists only cal/13, at 192.

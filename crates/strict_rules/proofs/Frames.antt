@@ -5,7 +5,7 @@ use native.Mathlib.Omega.{arith}
 use mathlib.Core.Path.{◌≡◌, refl, sym, ◌∙◌}
 use mathlib.Core.List.{List, Memᴰ}
 use mathlib.Core.Bool.{Bool, true, false, not}
-use mathlib.Core.Option.{some}
+use Rattle.std.specs.Prelude.{Some}
 use lib.ListN.{length, get_or, drop}
 use borrow.Author.Tests.{not-true}
 use Rattle.component.specs.Component.{Component, span_length}
@@ -19,13 +19,13 @@ use Rattle.strict_rules.specs.Strict.{EveryMagicTaken}
 -- What the guarded listing has: what may be taken at a place, and all of it.
 
 pub mem_guarded : (r : List ℕ) (a : ℕ) → 0 < a → (t : Entry) → Memᴰ t (guarded_listing r a)
-    → Place a t.place × (t.place < length r) × (guarded_pick r a t.place ≡ some t.component)
+    → Place a t.place × (t.place < length r) × (guarded_pick r a t.place ≡ Some t.component)
 mem_guarded r a pos t m =
     let f = mem_picked (guarded_pick r a) (all_places r a) t (rw (guarded_context_free r a pos) at m) in
     let q = listed_place r a pos t.place f.0 in
     (q.0, q.1, f.1)
 
-pub guarded_mem : (r : List ℕ) (a : ℕ) → 0 < a → (p : ℕ) (c : Component) → Place a p → guarded_pick r a p ≡ some c
+pub guarded_mem : (r : List ℕ) (a : ℕ) → 0 < a → (p : ℕ) (c : Component) → Place a p → guarded_pick r a p ≡ Some c
     → Memᴰ (record { place = p; component = c }) (guarded_listing r a)
 guarded_mem r a pos p c pl e =
     rw (guarded_context_free r a pos) (picked_mem (guarded_pick r a) (all_places r a) p c
@@ -42,7 +42,7 @@ pub record Frame (r : List ℕ) (a : ℕ) (anew : ℕ → Bool) (r' : List ℕ) 
   pub same_length : length r' ≡ length r
   pub rest : (i : ℕ) → anew i ≡ false → get_or r' i 0 ≡ get_or r i 0
   pub cells : (p i : ℕ) → Place a p → anew p ≡ false → p ≤ i → i < p + a → i < length r → anew i ≡ false
-  pub spans : (p : ℕ) (c : Component) → Place a p → guarded_pick r a p ≡ some c → anew p ≡ false → (i : ℕ) → p ≤ i → i < p + span_length c → anew i ≡ false
+  pub spans : (p : ℕ) (c : Component) → Place a p → guarded_pick r a p ≡ Some c → anew p ≡ false → (i : ℕ) → p ≤ i → i < p + span_length c → anew i ≡ false
 
 -- The eight bytes at a place lie in its cell: for that the alignment is 8 or more.
 module _ (r r' : List ℕ) (a : ℕ) (big : 8 ≤ a) (anew : ℕ → Bool) (fr : Frame r a anew r') where
@@ -52,7 +52,7 @@ module _ (r r' : List ℕ) (a : ℕ) (big : 8 ≤ a) (anew : ℕ → Bool) (fr :
   pub same_magic : (p : ℕ) → Place a p → anew p ≡ false → magic_at r' p ≡ magic_at r p
   same_magic p pl q = magic_local r r' p fr.same_length (λ i le lt l. fr.rest i (fr.cells p i pl q le (omega arith) l))
 
-  pub same_component : (p : ℕ) (c : Component) → Place a p → anew p ≡ false → guarded_pick r a p ≡ some c → guarded_pick r' a p ≡ some c
+  pub same_component : (p : ℕ) (c : Component) → Place a p → anew p ≡ false → guarded_pick r a p ≡ Some c → guarded_pick r' a p ≡ Some c
   unfolding plain_pick
   same_component p c pl q e = guarded_of r' a pos p c
       (judge_local (drop p r) (drop p r') c g.0
@@ -60,7 +60,7 @@ module _ (r r' : List ℕ) (a : ℕ) (big : 8 ≤ a) (anew : ℕ → Bool) (fr :
       (magic_inside_of r' a pos p (span_length c)
       (λ x px lt k. same_magic x px (stays x (omega arith) k) ∙ no_magic_inside r a pos p (span_length c) pl g.1 x px lt k) pl)
     where
-      g : (plain_pick r p ≡ some c) × (magic_inside r a p (span_length c) ≡ false)
+      g : (plain_pick r p ≡ Some c) × (magic_inside r a p (span_length c) ≡ false)
       g = guarded_plain r a pos p c e
 
       stays : (i : ℕ) → p ≤ i → i < p + span_length c → anew i ≡ false
@@ -87,9 +87,9 @@ module _ (r r' : List ℕ) (a : ℕ) (big : 8 ≤ a) (anew : ℕ → Bool) (fr :
         (λ p m e. same_pick p (listed_place r a pos p m).0 (not-true (anew p) e)))
 
     -- If each new magic is a component's too, every magic is.
-    pub still_every_taken : ((p : ℕ) → Place a p → anew p ≡ true → magic_at r' p ≡ true → (c : Component) × (guarded_pick r' a p ≡ some c)) → EveryMagicTaken r' a
+    pub still_every_taken : ((p : ℕ) → Place a p → anew p ≡ true → magic_at r' p ≡ true → (c : Component) × (guarded_pick r' a p ≡ Some c)) → EveryMagicTaken r' a
     still_every_taken new p pl c = go (anew p) refl
       where
-        go : (b : Bool) → anew p ≡ b → (d : Component) × (guarded_pick r' a p ≡ some d)
+        go : (b : Bool) → anew p ≡ b → (d : Component) × (guarded_pick r' a p ≡ Some d)
         go true q = new p pl q c
         go false q = let s = every_taken p pl (sym (same_magic p pl q) ∙ c) in (s.0, same_component p s.0 pl q s.1)

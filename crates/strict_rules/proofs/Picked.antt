@@ -7,34 +7,34 @@ use mathlib.Core.List.Memᴰ
 use mathlib.Core.List.{List, [], ◌∷◌, Memᴰ}
 use mathlib.Core.Logic.{◌⊎◌, inl, inr}
 use mathlib.Core.Bool.{Bool, true, false}
-use mathlib.Core.Option.{Option, some, none}
+use Rattle.std.specs.Prelude.{Option, Some, None}
 use lib.ListN.{length}
 use Rattle.component.specs.Component.{Component}
 use Rattle.bytes_read.specs.Lists.{filter}
 use Rattle.walk.specs.Walk.{Entry, Pick, place_count_below, all_places, prepend, picked, Place}
 use Rattle.walk.proofs.Places.{below_ge, below_lt, mem_places, places_mem}
 
-pub mem_picked : (pick : Pick) (ps : List ℕ) (t : Entry) → Memᴰ t (picked pick ps) → Memᴰ t.place ps × (pick t.place ≡ some t.component)
+pub mem_picked : (pick : Pick) (ps : List ℕ) (t : Entry) → Memᴰ t (picked pick ps) → Memᴰ t.place ps × (pick t.place ≡ Some t.component)
 unfolding picked prepend
 mem_picked pick [] t m = absurd (Memᴰ.not-nil m)
 mem_picked pick (p ∷ ps) t m = go (pick p) refl m (λ m'. mem_picked pick ps t m')
   where
     Goal : Type 0
-    Goal = Memᴰ t.place (p ∷ ps) × (pick t.place ≡ some t.component)
+    Goal = Memᴰ t.place (p ∷ ps) × (pick t.place ≡ Some t.component)
 
-    later : Memᴰ t.place ps × (pick t.place ≡ some t.component) → Goal
+    later : Memᴰ t.place ps × (pick t.place ≡ Some t.component) → Goal
     later (m', e) = (Memᴰ.tail m', e)
 
     go : (o : Option Component) → pick p ≡ o → Memᴰ t (prepend p o (picked pick ps))
-        → (Memᴰ t (picked pick ps) → Memᴰ t.place ps × (pick t.place ≡ some t.component)) → Goal
-    go none q m' ih = later (ih m')
-    go (some c) q m' ih = by (Memᴰ.cases_cons m')
+        → (Memᴰ t (picked pick ps) → Memᴰ t.place ps × (pick t.place ≡ Some t.component)) → Goal
+    go None q m' ih = later (ih m')
+    go (Some c) q m' ih = by (Memᴰ.cases_cons m')
       where
         by : (t ≡ record { place = p; component = c }) ⊎ Memᴰ t (picked pick ps) → Goal
         by (inl e) = (Memᴰ.head (ap (λ (u : Entry). u.place) e), rw e q)
         by (inr n) = later (ih n)
 
-pub picked_mem : (pick : Pick) (ps : List ℕ) (p : ℕ) (c : Component) → Memᴰ p ps → pick p ≡ some c
+pub picked_mem : (pick : Pick) (ps : List ℕ) (p : ℕ) (c : Component) → Memᴰ p ps → pick p ≡ Some c
     → Memᴰ (record { place = p; component = c }) (picked pick ps)
 unfolding picked prepend
 picked_mem pick [] p c m e = absurd (Memᴰ.not-nil m)
@@ -44,8 +44,8 @@ picked_mem pick (x ∷ xs) p c m e = go (Memᴰ.cases_cons m) (λ m'. picked_mem
     T = record { place = p; component = c }
 
     later : (o : Option Component) → Memᴰ T (picked pick xs) → Memᴰ T (prepend x o (picked pick xs))
-    later none n = n
-    later (some g) n = Memᴰ.tail n
+    later None n = n
+    later (Some g) n = Memᴰ.tail n
 
     go : (p ≡ x) ⊎ Memᴰ p xs → (Memᴰ p xs → Memᴰ T (picked pick xs)) → Memᴰ T (prepend x (pick x) (picked pick xs))
     go (inl q) ih = rw (← q, e) (Memᴰ.head refl)
@@ -68,14 +68,14 @@ module _ (r : List ℕ) (a : ℕ) (pos : 0 < a) where
 filter_out : (test : ℕ → Bool) (p : ℕ) (o : Option Component) (l : List Entry) → test p ≡ false
     → filter (λ t. test t.place) (prepend p o l) ≡ filter (λ t. test t.place) l
 unfolding filter prepend
-filter_out test p none l e = refl
-filter_out test p (some c) l e = rw e
+filter_out test p None l e = refl
+filter_out test p (Some c) l e = rw e
 
 filter_in : (test : ℕ → Bool) (p : ℕ) (o : Option Component) (l : List Entry) → test p ≡ true
     → filter (λ t. test t.place) (prepend p o l) ≡ prepend p o (filter (λ t. test t.place) l)
 unfolding filter prepend
-filter_in test p none l e = refl
-filter_in test p (some c) l e = rw e
+filter_in test p None l e = refl
+filter_in test p (Some c) l e = rw e
 
 -- Picks that agree where a test of the place holds give the same, as far as the test holds.
 pub picked-filter : (test : ℕ → Bool) (pick pick' : Pick) (ps : List ℕ) → ((p : ℕ) → Memᴰ p ps → test p ≡ true → pick' p ≡ pick p)

@@ -83,7 +83,6 @@ module _ (r : List ℕ) (a : ℕ) where
 
 any_split : (f : Entry → Bool) (l : List Entry) → any f l ≡ true
     → (before : List Entry) × (x : Entry) × (after : List Entry) × (l ≡ before ++ (x ∷ after)) × (f x ≡ true)
-unfolding any
 any_split f [] e = absurd (false≢true e)
 any_split f (y ∷ ys) e = go (f y) refl e (any_split f ys)
   where

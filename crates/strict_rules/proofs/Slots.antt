@@ -7,7 +7,7 @@ use mathlib.Core.List.Memᴰ
 use mathlib.Core.List.{List, [], ◌∷◌, Memᴰ}
 use mathlib.Core.Logic.{◌⊎◌, inl, inr}
 use mathlib.Core.Bool.{Bool, true, false, ◌&&◌, true≢false, and-true, and-false, or-false}
-use mathlib.Core.Option.{Option, some, none}
+use Rattle.std.specs.Prelude.{Option, Some, None}
 use lib.ListN.{length}
 use lib.Dec.{leb, ltb, eqb}
 use borrow.Author.Tests.{le-leb, lt-leb, lt-ltb, le-ltb, ne_eqb}
@@ -124,7 +124,7 @@ module _ (r : List ℕ) (a : ℕ) (big : 8 ≤ a) (set : ℕ → Bool) where
   outside_cell p i pl lt d m k l = omega (arith, place_far a p d.place pl (mem_guarded r a pos d m).0 k)
 
   -- No component starts within the span of one that may be taken, after its first byte.
-  outside_span : (p : ℕ) (h : Component) → Place a p → guarded_pick r a p ≡ some h → (i : ℕ) → i < p + span_length h → Outside (guarded_listing r a) p i
+  outside_span : (p : ℕ) (h : Component) → Place a p → guarded_pick r a p ≡ Some h → (i : ℕ) → i < p + span_length h → Outside (guarded_listing r a) p i
   outside_span p h pl e i lt d m k l =
       let f = mem_guarded r a pos d m in
       true≢false (sym (guarded_has_magic r a pos d.place d.component f.2)
@@ -145,7 +145,7 @@ module _ (r : List ℕ) (a : ℕ) (big : 8 ≤ a) (set : ℕ → Bool) where
       → (i : ℕ) → t.place ≤ i → i < entry_end t → in_slots set r a i ≡ true
   corrupted_inside r' sp t m q i le lt = go (in_slots set r a i) refl (last (guarded_listing r a) t.place i)
     where
-      f : Place a t.place × (t.place < length r') × (guarded_pick r' a t.place ≡ some t.component)
+      f : Place a t.place × (t.place < length r') × (guarded_pick r' a t.place ≡ Some t.component)
       f = mem_guarded r' a pos t m
 
       i< : i < length r
@@ -175,8 +175,8 @@ picked_rising pick a zero p pos = tt
 picked_rising pick a (suc k) p pos = go (pick p) (picked_rising pick a k (p + a) pos)
   where
     go : (o : Option Component) → Rising (picked pick (places a k (p + a))) → Rising (prepend p o (picked pick (places a k (p + a))))
-    go none ih = ih
-    go (some h) ih = ((λ d m. by d (mem_places a k (p + a) d.place (mem_picked pick (places a k (p + a)) d m).0)), ih)
+    go None ih = ih
+    go (Some h) ih = ((λ d m. by d (mem_places a k (p + a) d.place (mem_picked pick (places a k (p + a)) d m).0)), ih)
       where
         by : (d : Entry) → (i : ℕ) × (i < k) × (d.place ≡ p + a + i * a) → p < d.place
         by d (i, lt, e) = omega arith

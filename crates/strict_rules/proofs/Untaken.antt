@@ -8,11 +8,11 @@ use mathlib.Core.Path.{◌≡◌, refl, ap, ◌∙◌}
 use mathlib.Core.List.{List, [], ◌∷◌, Memᴰ}
 use mathlib.Core.Logic.{inl}
 use mathlib.Core.Bool.{Bool, true, false}
-use mathlib.Core.Option.{Option, some, none}
+use Rattle.std.specs.Prelude.{Option, Some, None}
 use lib.ListN.{length, drop}
 use borrow.Author.Tests.{eq-eqb, ne_eqb}
 use Rattle.component.specs.Component.{Component, span_length, judge}
-use Rattle.bytes_read.specs.Lists.{any, filter}
+use Rattle.bytes_read.specs.Lists.{filter}
 use Rattle.walk.specs.Walk.{Entry, place_count_below, places, magic_at, next_magic, plain_pick, step, next_place, listing_from, Place, PlaceOrPastEnd}
 use Rattle.walk.proofs.Places.{no_places, below_next, below_end, below_unique, mem_places}
 use Rattle.walk.proofs.Searching.{next_end, next_here, next_not, next_above, next_has_magic, by_places, over_no_magic, no_magic_all}
@@ -29,8 +29,8 @@ untaken_from r a n = filter (is_untaken r (listing_from (plain_pick r) r a n)) (
 
 -- The first of a list, if it has one.
 unfoldable pub lowest : List ℕ → Option ℕ
-lowest [] = none
-lowest (p ∷ ps) = some p
+lowest [] = None
+lowest (p ∷ ps) = Some p
 
 -- The lowest untaken from n on, if there is one.
 abbrev pub first_untaken : List ℕ → ℕ → ℕ → Option ℕ
@@ -66,11 +66,11 @@ no_row r a n z = rw (z, no_places (length r - n))
 
 -- A component more in a listing.
 takes_cons : (t : Entry) (l : List Entry) (x : ℕ) → (t.place ≡ x → ⊥) → lists_place (t ∷ l) x ≡ lists_place l x
-unfolding lists_place any
+unfolding lists_place
 takes_cons t l x n = rw (ne_eqb t.place x n)
 
 takes_head : (t : Entry) (l : List Entry) → lists_place (t ∷ l) t.place ≡ true
-unfolding lists_place any
+unfolding lists_place
 takes_head t l = rw (eq-eqb t.place t.place refl)
 
 -- Whether a place is untaken.
@@ -194,7 +194,7 @@ search_at_place r a pos n b = by_places r a pos b (λ n. Place a n → next_magi
 -- At a place p with the magic.
 module _ (r : List ℕ) (a : ℕ) (pos : 0 < a) (p : ℕ) (at : Place a p) (inside : p < length r) (magic : magic_at r p ≡ true) where
   -- An ill-formed header: p is untaken.
-  module _ (ill : judge (drop p r) ≡ none) where
+  module _ (ill : judge (drop p r) ≡ None) where
     pub list_ill : plain_from r a p ≡ plain_from r a (p + a)
     unfolding plain_pick
     list_ill = list_same r a p (p + a) (step-next (plain_pick r) r a pos p inside ill)
@@ -205,12 +205,12 @@ module _ (r : List ℕ) (a : ℕ) (pos : 0 < a) (p : ℕ) (at : Place a p) (insi
         (kept_here r a pos (is_untaken r (plain_from r a (p + a))) p inside
         (untaken_true r (plain_from r a (p + a)) p magic (taken_after r a pos (p + a) p (inl (suc at.0, omega (arith, at.1))) (omega arith))))
 
-    pub first_ill : first_untaken r a p ≡ some p
+    pub first_ill : first_untaken r a p ≡ Some p
     unfolding lowest
     first_ill = ap lowest from_ill
 
   -- A component c, its span up to e.
-  module _ (c : Component) (well : judge (drop p r) ≡ some c) (e : ℕ) (ends : e ≡ p + span_length c) where
+  module _ (c : Component) (well : judge (drop p r) ≡ Some c) (e : ℕ) (ends : e ≡ p + span_length c) where
     abbrev here : Entry
     here = record { place = p; component = c }
 
@@ -250,7 +250,7 @@ module _ (r : List ℕ) (a : ℕ) (pos : 0 < a) (p : ℕ) (at : Place a p) (insi
     first_open q = ap lowest (from_open q)
 
     -- A later place in the span carries the magic: the first of them is untaken, and none before it.
-    pub first_inside : next_magic r a (p + a) e < e → first_untaken r a p ≡ some (next_magic r a (p + a) e)
+    pub first_inside : next_magic r a (p + a) e < e → first_untaken r a p ≡ Some (next_magic r a (p + a) e)
     unfolding lowest
     first_inside l =
         ap lowest (from_well ∙ kept_search r a pos listed e (p + a) fits.1 l

@@ -1,6 +1,5 @@
 -- The strict check over a region's bytes r at the alignment a (document 01, "Components and the two walks"; refusals 12, 13, 11).
-use Rattle.std.specs.Prelude.{ℕ, ◌≤◌, ◌<◌, ◌≡◌, List, [], ◌∷◌, map, Bool, true, false, cond, not, ◌&&◌, length, ltb, eqb}
-use Rattle.std.proofs.Math.Option.{some}
+use Rattle.std.specs.Prelude.{ℕ, ◌≤◌, ◌<◌, ◌≡◌, List, [], ◌∷◌, map, Bool, true, false, cond, not, ◌&&◌, length, ltb, eqb, Some}
 use Rattle.bytes_read.specs.Lists.{any, filter, no_two}
 use Rattle.component.specs.Component.{Component}
 use Rattle.walk.specs.Walk.{Entry, all_places, magic_at, guarded_pick, plain_listing, Place}
@@ -67,4 +66,4 @@ pub record LowestUntaken (r : List ℕ) (a : ℕ) (p : ℕ) : Type 0 where
 
 -- Every magic at a place is a component's that the guarded walk may take.
 abbrev pub EveryMagicTaken : List ℕ → ℕ → Type 0
-EveryMagicTaken r a = (p : ℕ) → Place a p → magic_at r p ≡ true → (c : Component) × (guarded_pick r a p ≡ some c)
+EveryMagicTaken r a = (p : ℕ) → Place a p → magic_at r p ≡ true → (c : Component) × (guarded_pick r a p ≡ Some c)

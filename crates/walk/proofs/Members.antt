@@ -7,7 +7,7 @@ use mathlib.Core.Path.{◌≡◌, subst}
 use mathlib.Core.List.Memᴰ
 use mathlib.Core.List.{List, Memᴰ}
 use mathlib.Core.Bool.{Bool}
-use mathlib.Core.Option.{some}
+use Rattle.std.specs.Prelude.{Some}
 use lib.ListN.{length, drop}
 use Rattle.component.specs.Component.{judge}
 use Rattle.walk.specs.Walk.{Entry, entry_end, next_place, next, pick_of, listing, Place}
@@ -25,7 +25,7 @@ pub record Given (r : List ℕ) (a : ℕ) (e : Entry) : Type 0 where
   pub pos : 0 < a
   pub at : Place a e.place
   pub inside : e.place < length r
-  pub judged : judge (drop e.place r) ≡ some e.component
+  pub judged : judge (drop e.place r) ≡ Some e.component
   pub fits : entry_end e ≤ length r
 
 pub given : (g : Bool) (r : List ℕ) (a : ℕ) (e : Entry) → Memᴰ e (listing (pick_of g r a) r a) → Given r a e

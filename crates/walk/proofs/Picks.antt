@@ -6,7 +6,8 @@ use mathlib.Core.Path.{◌≡◌, refl, sym, ap, ◌∙◌}
 use mathlib.Core.List.Memᴰ
 use mathlib.Core.List.{List}
 use mathlib.Core.Bool.{Bool, true, false, cond, true≢false}
-use mathlib.Core.Option.{Option, some, none, some-injective, none-ne-some}
+use Rattle.std.specs.Prelude.{Option, Some, None}
+use Rattle.std.proofs.lemmas.Option.{same_Some, none-some}
 use lib.ListN.{length, get_or, take, drop, length-take, length-drop}
 use Rattle.component.specs.Component.{Component, span_length, judge, starts_with_magic, magic}
 use Rattle.component.proofs.Judging.{judge-fits, judge-magic, judge_no_magic, window}
@@ -30,35 +31,35 @@ pub magic_local : (r r' : List ℕ) (p : ℕ) → length r' ≡ length r → ((i
 unfolding magic_at starts_with_magic
 magic_local r r' p l h = rw (window 8 p r' r (rw l) (λ j j< k. h (p + j) (omega arith) (omega arith) (omega arith)))
 
-pub plain_has_magic : (r : List ℕ) (p : ℕ) (h : Component) → plain_pick r p ≡ some h → magic_at r p ≡ true
+pub plain_has_magic : (r : List ℕ) (p : ℕ) (h : Component) → plain_pick r p ≡ Some h → magic_at r p ≡ true
 unfolding plain_pick magic_at
 plain_has_magic r p h e = judge-magic (drop p r) h e
 
-pub plain_none : (r : List ℕ) (p : ℕ) → magic_at r p ≡ false → plain_pick r p ≡ none
+pub plain_none : (r : List ℕ) (p : ℕ) → magic_at r p ≡ false → plain_pick r p ≡ None
 unfolding plain_pick magic_at
 plain_none r p e = judge_no_magic (drop p r) e
 
-pub plain_fits : (r : List ℕ) (p : ℕ) (h : Component) → plain_pick r p ≡ some h → (40 ≤ span_length h) × (p + span_length h ≤ length r)
+pub plain_fits : (r : List ℕ) (p : ℕ) (h : Component) → plain_pick r p ≡ Some h → (40 ≤ span_length h) × (p + span_length h ≤ length r)
 unfolding plain_pick
 plain_fits r p h e =
     let b = judge-fits (drop p r) h e in
     let k : span_length h ≤ length r - p = rw (length-drop) at b.1 in
     (omega (arith, b.0), omega (arith, b.0))
 
-pub unless_some : (bad : Component → Bool) (o : Option Component) (h : Component) → unless bad o ≡ some h → (o ≡ some h) × (bad h ≡ false)
+pub unless_some : (bad : Component → Bool) (o : Option Component) (h : Component) → unless bad o ≡ Some h → (o ≡ Some h) × (bad h ≡ false)
 unfolding unless
-unless_some bad none h e = absurd (none-ne-some h e)
-unless_some bad (some g) h e = go (bad g) refl e
+unless_some bad None h e = absurd (none-some h e)
+unless_some bad (Some g) h e = go (bad g) refl e
   where
-    go : (b : Bool) → bad g ≡ b → cond b none (some g) ≡ some h → (some g ≡ some h) × (bad h ≡ false)
-    go true q e' = absurd (none-ne-some h e')
-    go false q e' = (e', rw (← some-injective g h e') q)
+    go : (b : Bool) → bad g ≡ b → cond b None (Some g) ≡ Some h → (Some g ≡ Some h) × (bad h ≡ false)
+    go true q e' = absurd (none-some h e')
+    go false q e' = (e', rw (← same_Some g h e') q)
 
-pub unless_bad : (bad : Component → Bool) (c : Component) (o : Option Component) → o ≡ some c → bad c ≡ true → unless bad o ≡ none
+pub unless_bad : (bad : Component → Bool) (c : Component) (o : Option Component) → o ≡ Some c → bad c ≡ true → unless bad o ≡ None
 unfolding unless
 unless_bad bad c o e b = rw (e, b)
 
-pub unless_good : (bad : Component → Bool) (c : Component) (o : Option Component) → o ≡ some c → bad c ≡ false → unless bad o ≡ some c
+pub unless_good : (bad : Component → Bool) (c : Component) (o : Option Component) → o ≡ Some c → bad c ≡ false → unless bad o ≡ Some c
 unfolding unless
 unless_good bad c o e b = rw (e, b)
 
@@ -85,24 +86,24 @@ module _ (r : List ℕ) (a : ℕ) (pos : 0 < a) where
           let k : suc (suc d) * a ≤ place_count_below a n * a = mul-le-mul_right {m = suc (suc d)} {n = place_count_below a n} a (omega arith) in
           h x (suc (pl.0 + d), omega (arith, pl.1)) (omega arith) (omega (arith, below_lt a pos n))
 
-  pub guarded_plain : (p : ℕ) (h : Component) → guarded_pick r a p ≡ some h → (plain_pick r p ≡ some h) × (magic_inside r a p (span_length h) ≡ false)
+  pub guarded_plain : (p : ℕ) (h : Component) → guarded_pick r a p ≡ Some h → (plain_pick r p ≡ Some h) × (magic_inside r a p (span_length h) ≡ false)
   unfolding guarded_pick plain_pick
   guarded_plain p h e = unless_some (λ g. magic_inside r a p (span_length g)) (judge (drop p r)) h e
 
-  pub guarded_of : (p : ℕ) (h : Component) → plain_pick r p ≡ some h → magic_inside r a p (span_length h) ≡ false → guarded_pick r a p ≡ some h
+  pub guarded_of : (p : ℕ) (h : Component) → plain_pick r p ≡ Some h → magic_inside r a p (span_length h) ≡ false → guarded_pick r a p ≡ Some h
   unfolding guarded_pick plain_pick
   guarded_of p h e b = unless_good (λ c. magic_inside r a p (span_length c)) h (judge (drop p r)) e b
 
-  pub guarded_has_magic : (p : ℕ) (h : Component) → guarded_pick r a p ≡ some h → magic_at r p ≡ true
+  pub guarded_has_magic : (p : ℕ) (h : Component) → guarded_pick r a p ≡ Some h → magic_at r p ≡ true
   guarded_has_magic p h e = plain_has_magic r p h (guarded_plain p h e).0
 
   -- Nothing is taken where no magic is carried.
-  pub guarded_none : (p : ℕ) → magic_at r p ≡ false → guarded_pick r a p ≡ none
+  pub guarded_none : (p : ℕ) → magic_at r p ≡ false → guarded_pick r a p ≡ None
   guarded_none p c = go (guarded_pick r a p) refl
     where
-      go : (o : Option Component) → guarded_pick r a p ≡ o → o ≡ none
-      go none e = refl
-      go (some h) e = absurd (true≢false (sym (guarded_has_magic p h e) ∙ c))
+      go : (o : Option Component) → guarded_pick r a p ≡ o → o ≡ None
+      go None e = refl
+      go (Some h) e = absurd (true≢false (sym (guarded_has_magic p h e) ∙ c))
 
   pub guarded_fits : Fits (guarded_pick r a) r a pos
   guarded_fits p h e =

@@ -122,7 +122,7 @@ module _ (r : List ℕ) (a : ℕ) (pos : 0 < a) where
   -- A later place in a span carries the magic exactly if the search from the next place finds it there.
 
   any-seek : (t : ℕ → Bool) (e k p : ℕ) → ((i : ℕ) → i < k → p + i * a < e) → any t (places a k p) ≡ ltb (seek t a e k p) e
-  unfolding any places seek
+  unfolding places seek
   any-seek t e zero p h = sym (le-ltb e e (omega arith))
   any-seek t e (suc k) p h = go (t p) (any-seek t e k (p + a) (λ i l. omega (arith, h (suc i) (omega arith))))
     where
@@ -193,6 +193,14 @@ module _ (r : List ℕ) (a : ℕ) (pos : 0 < a) where
       go (yes l) = let z : k * a ≡ n = omega arith in rw z
       go (no l) = next_end (p + k * a) b (omega arith) ∙ sym (next_end (p + n) b (omega arith))
 
+  -- By what was answered on the eight bytes from n on.
+
+  pub eight_here : (n b : ℕ) → n < b → starts_with_magic (take (n + 8 - n) (drop n r)) ≡ true → next_magic r a n b ≡ n
+  eight_here n b h y = next_here n b h (magic_eight_bytes r n (sym y))
+
+  pub eight_not : (n b : ℕ) → n < b → starts_with_magic (take (n + 8 - n) (drop n r)) ≡ false → next_magic r a n b ≡ next_magic r a (n + a) b
+  eight_not n b h y = next_not n b h (magic_eight_bytes r n (sym y))
+
 -- Past its end the search finds nothing, at any alignment.
 pub next_past : (r : List ℕ) (a n b : ℕ) → b ≤ n → next_magic r a n b ≡ b
 next_past r a n b h = go (dec_lt 0 a)
@@ -200,3 +208,34 @@ next_past r a n b h = go (dec_lt 0 a)
     go : Dec (0 < a) → next_magic r a n b ≡ b
     go (yes pos) = next_end r a pos n b h
     go (no g) = next_none r a n b (omega arith)
+
+-- The search by the number from which on no eight bytes are left. Of its parts: nothing is searched; only one place is; and what its loop finds.
+
+abbrev pub last_eight : List ℕ → ℕ → ℕ
+last_eight r b = min b (length r - 7)
+
+pub nothing_left : (r : List ℕ) (a n b : ℕ) → last_eight r b ≤ n → next_magic r a n b ≡ b
+nothing_left r a n b h = go (dec_lt 0 a)
+  where
+    go : Dec (0 < a) → next_magic r a n b ≡ b
+    go (yes pos) = no_magic_end r a pos (last_eight r b) b (no_magic_past r b (last_eight r b) refl) n h
+    go (no g) = next_none r a n b (omega arith)
+
+pub too_short : (r : List ℕ) (a n b : ℕ) → length r < 8 → next_magic r a n b ≡ b
+too_short r a n b h = nothing_left r a n b (omega arith)
+
+module _ (r : List ℕ) (a n b : ℕ) (pos : 0 < a) where
+  pub only_here : n < last_eight r b → starts_with_magic (take (length r - n) (drop n r)) ≡ true → next_magic r a n b ≡ n
+  only_here l y = next_here r a pos n b (omega arith) (magic_rest r n (sym y))
+
+  pub none_here : n < last_eight r b → last_eight r b - n ≤ a → starts_with_magic (take (length r - n) (drop n r)) ≡ false → next_magic r a n b ≡ b
+  none_here l f y = next_not r a pos n b (omega arith) (magic_rest r n (sym y)) ∙ nothing_left r a (n + a) b (omega arith)
+
+  pub found_sooner : next_magic r a n (last_eight r b) < last_eight r b → next_magic r a n b ≡ next_magic r a n (last_eight r b)
+  found_sooner f = sooner_found r a pos n (last_eight r b) b (omega arith) f
+
+  pub none_sooner : last_eight r b ≤ next_magic r a n (last_eight r b) → next_magic r a n b ≡ b
+  none_sooner f = sooner_none r a pos n (last_eight r b) b (omega arith) (no_magic_past r b (last_eight r b) refl) f
+
+-- For `search`: how the whole search goes by its parts.
+pub ruleset by_parts = (next_none, too_short, nothing_left, only_here, none_here, found_sooner, none_sooner)

@@ -7,7 +7,8 @@ use mathlib.Core.Path.{◌≡◌, refl, sym, ap, subst, ◌∙◌}
 use mathlib.Core.List.Memᴰ
 use mathlib.Core.List.{List, [], ◌∷◌, Memᴰ}
 use mathlib.Core.Logic.{◌⊎◌, inl, inr}
-use mathlib.Core.Option.{Option, some, none, some-injective, none-ne-some, some-ne-none}
+use Rattle.std.specs.Prelude.{Option, Some, None}
+use Rattle.std.proofs.lemmas.Option.{same_Some, none-some}
 use lib.ListN.{length}
 use Rattle.component.specs.Component.{Component, span_length}
 use Rattle.walk.specs.Walk.{Entry, Pick, entry_end, place_count_below, places, all_places, or_else, first, next_place, step, follow, steps, listing}
@@ -16,7 +17,7 @@ use Rattle.walk.specs.Walk.{prepend, picked, Place, PlaceOrPastEnd}
 use Rattle.walk.proofs.Places.{below_ge, below_lt, below_next, below_end, below_pos, gap}
 
 -- A listing ends where no component is left.
-pub rest_none : (pick : Pick) (r : List ℕ) (a n : ℕ) → step pick r a n ≡ none → listing_from pick r a n ≡ []
+pub rest_none : (pick : Pick) (r : List ℕ) (a n : ℕ) → step pick r a n ≡ None → listing_from pick r a n ≡ []
 unfolding listing_from steps follow
 rest_none pick r a n e = go (length r)
   where
@@ -64,12 +65,12 @@ module _ (pick : Pick) (r : List ℕ) (a : ℕ) (pos : 0 < a) where
     pub skipped : ℕ
     pub at : t.place ≡ n + skipped * a
     pub inside : t.place < length r
-    pub taken : pick t.place ≡ some t.component
+    pub taken : pick t.place ≡ Some t.component
     pub rest : all_from pick r a n ≡ t ∷ all_from pick r a (t.place + a)
 
-  first_some : (j n : ℕ) → place_count_below a (length r - n) ≡ j → (t : Entry) → first pick a j n ≡ some t → First n t
+  first_some : (j n : ℕ) → place_count_below a (length r - n) ≡ j → (t : Entry) → first pick a j n ≡ Some t → First n t
   unfolding first or_else prepend
-  first_some zero n c t e = absurd (none-ne-some t e)
+  first_some zero n c t e = absurd (none-some t e)
   first_some (suc j) n c t e = go (pick n) refl (first_some j (n + a) d t) e
     where
       h : n < length r
@@ -78,14 +79,14 @@ module _ (pick : Pick) (r : List ℕ) (a : ℕ) (pos : 0 < a) where
       d : place_count_below a (length r - (n + a)) ≡ j
       d = omega (arith, below_next a pos (length r) n h)
 
-      go : (o : Option Component) → pick n ≡ o → (first pick a j (n + a) ≡ some t → First (n + a) t) → or_else n o (first pick a j (n + a)) ≡ some t → First n t
-      go none q ih e' =
+      go : (o : Option Component) → pick n ≡ o → (first pick a j (n + a) ≡ Some t → First (n + a) t) → or_else n o (first pick a j (n + a)) ≡ Some t → First n t
+      go None q ih e' =
           let f : First (n + a) t = ih e' in
           record { skipped = suc f.skipped; at = omega arith; inside = f.inside; taken = f.taken; rest = all_from_next n h ∙ rw q f.rest }
-      go (some g) q ih e' = subst (λ (u : Entry). First n u) (some-injective _ _ e')
+      go (Some g) q ih e' = subst (λ (u : Entry). First n u) (same_Some _ _ e')
           (record { skipped = 0; at = omega arith; inside = h; taken = q; rest = all_from_next n h ∙ rw q refl })
 
-  first_none : (j n : ℕ) → place_count_below a (length r - n) ≡ j → first pick a j n ≡ none → all_from pick r a n ≡ []
+  first_none : (j n : ℕ) → place_count_below a (length r - n) ≡ j → first pick a j n ≡ None → all_from pick r a n ≡ []
   unfolding first or_else prepend
   first_none zero n c e = unfold all_from picked places in rw c
   first_none (suc j) n c e = go (pick n) refl (first_none j (n + a) d) e
@@ -96,21 +97,21 @@ module _ (pick : Pick) (r : List ℕ) (a : ℕ) (pos : 0 < a) where
       d : place_count_below a (length r - (n + a)) ≡ j
       d = omega (arith, below_next a pos (length r) n h)
 
-      go : (o : Option Component) → pick n ≡ o → (first pick a j (n + a) ≡ none → all_from pick r a (n + a) ≡ []) → or_else n o (first pick a j (n + a)) ≡ none
+      go : (o : Option Component) → pick n ≡ o → (first pick a j (n + a) ≡ None → all_from pick r a (n + a) ≡ []) → or_else n o (first pick a j (n + a)) ≡ None
           → all_from pick r a n ≡ []
-      go none q ih e' = all_from_next n h ∙ rw q (ih e')
-      go (some g) q ih e' = absurd (some-ne-none _ e')
+      go None q ih e' = all_from_next n h ∙ rw q (ih e')
+      go (Some g) q ih e' = absurd (none-some _ (sym e'))
 
-  pub step_some : (n : ℕ) (t : Entry) → step pick r a n ≡ some t → First n t
+  pub step_some : (n : ℕ) (t : Entry) → step pick r a n ≡ Some t → First n t
   unfolding step
   step_some n t e = first_some (place_count_below a (length r - n)) n refl t e
 
-  pub step_none : (n : ℕ) → step pick r a n ≡ none → all_from pick r a n ≡ []
+  pub step_none : (n : ℕ) → step pick r a n ≡ None → all_from pick r a n ≡ []
   unfolding step
   step_none n e = first_none (place_count_below a (length r - n)) n refl e
 
   -- Places below b at which nothing may be taken are passed over.
-  pub skip : (c p b : ℕ) → Place a p → p + c * a ≡ place_count_below a b * a → ((x : ℕ) → Place a x → p ≤ x → x < b → pick x ≡ none)
+  pub skip : (c p b : ℕ) → Place a p → p + c * a ≡ place_count_below a b * a → ((x : ℕ) → Place a x → p ≤ x → x < b → pick x ≡ None)
       → all_from pick r a p ≡ all_from pick r a (next_place r a b)
   unfolding next_place prepend
   skip zero p b pl e h = go (dec_le p (length r))
@@ -127,11 +128,11 @@ module _ (pick : Pick) (r : List ℕ) (a : ℕ) (pos : 0 < a) where
 
   -- What is taken has bytes, and lies in the region.
   abbrev pub Fits : Type 0
-  Fits = (p : ℕ) (h : Component) → pick p ≡ some h → (0 < span_length h) × (p + span_length h ≤ length r)
+  Fits = (p : ℕ) (h : Component) → pick p ≡ Some h → (0 < span_length h) × (p + span_length h ≤ length r)
 
   -- No other place inside what may be taken is one at which something may be taken.
   abbrev pub Exclusive : Type 0
-  Exclusive = (p : ℕ) (h : Component) → Place a p → pick p ≡ some h → (q : ℕ) → Place a q → p < q → q < p + span_length h → pick q ≡ none
+  Exclusive = (p : ℕ) (h : Component) → Place a p → pick p ≡ Some h → (q : ℕ) → Place a q → p < q → q < p + span_length h → pick q ≡ None
 
   pub first_place : (n : ℕ) (t : Entry) → PlaceOrPastEnd r a n → First n t → Place a t.place
   first_place n t (inl pl) f = (pl.0 + f.skipped, omega (arith, pl.1))
@@ -144,8 +145,8 @@ module _ (pick : Pick) (r : List ℕ) (a : ℕ) (pos : 0 < a) where
     where
       go : (o : Option Entry) → step pick r a n ≡ o → ((m : ℕ) → PlaceOrPastEnd r a m → length r - m ≤ k → steps pick r a k m ≡ all_from pick r a m)
           → follow (λ m. steps pick r a k m) (λ t. next_place r a (entry_end t)) o ≡ all_from pick r a n
-      go none e ih = sym (step_none n e)
-      go (some t) e ih =
+      go None e ih = sym (step_none n e)
+      go (Some t) e ih =
           let f : First n t = step_some n t e in
           let pl : Place a t.place = first_place n t s f in
           let fit : (0 < span_length t.component) × (entry_end t ≤ length r) = fits t.place t.component f.taken in
@@ -169,7 +170,7 @@ module _ (pick : Pick) (r : List ℕ) (a : ℕ) (pos : 0 < a) where
     pub from : n ≤ t.place
     pub at : Place a t.place
     pub inside : t.place < length r
-    pub taken : pick t.place ≡ some t.component
+    pub taken : pick t.place ≡ Some t.component
 
   pub mem_steps : Fits → (k n : ℕ) → PlaceOrPastEnd r a n → (t : Entry) → Memᴰ t (steps pick r a k n) → Listed n t
   unfolding steps follow
@@ -178,8 +179,8 @@ module _ (pick : Pick) (r : List ℕ) (a : ℕ) (pos : 0 < a) where
     where
       go : (o : Option Entry) → step pick r a n ≡ o → Memᴰ t (follow (λ m. steps pick r a k m) (λ t. next_place r a (entry_end t)) o)
           → ((m : ℕ) → PlaceOrPastEnd r a m → Memᴰ t (steps pick r a k m) → Listed m t) → Listed n t
-      go none e m' ih = absurd (Memᴰ.not-nil m')
-      go (some u) e m' ih = by (Memᴰ.cases_cons m')
+      go None e m' ih = absurd (Memᴰ.not-nil m')
+      go (Some u) e m' ih = by (Memᴰ.cases_cons m')
         where
           f : First n u
           f = step_some n u e
@@ -203,8 +204,8 @@ module _ (pick : Pick) (r : List ℕ) (a : ℕ) (pos : 0 < a) where
           → Memᴰ u (follow (λ m. steps pick r a k m) (λ t. next_place r a (entry_end t)) o)
           → ((m : ℕ) → PlaceOrPastEnd r a m → Memᴰ t (steps pick r a k m) → Memᴰ u (steps pick r a k m) → entry_end t ≤ u.place)
           → entry_end t ≤ u.place
-      go none e l l' ih = absurd (Memᴰ.not-nil l)
-      go (some v) e l l' ih = by (Memᴰ.cases_cons l) (Memᴰ.cases_cons l')
+      go None e l l' ih = absurd (Memᴰ.not-nil l)
+      go (Some v) e l l' ih = by (Memᴰ.cases_cons l) (Memᴰ.cases_cons l')
         where
           f : First n v
           f = step_some n v e
@@ -232,20 +233,20 @@ module _ (pick : Pick) (r : List ℕ) (a : ℕ) (pos : 0 < a) where
   listing-disjoint fits t u m m' lt = disjoint fits (length r) 0 (inl (0, omega arith)) t u m m' lt
 
   -- For a loop that looks at one place after the other.
-  pub step_end : (n : ℕ) → length r ≤ n → step pick r a n ≡ none
+  pub step_end : (n : ℕ) → length r ≤ n → step pick r a n ≡ None
   unfolding step first
   step_end n h = rw (below_end a pos (length r) n h)
 
-  pub step_here : (n : ℕ) (h : Component) → n < length r → pick n ≡ some h → step pick r a n ≡ some (record { place = n; component = h })
+  pub step_here : (n : ℕ) (h : Component) → n < length r → pick n ≡ Some h → step pick r a n ≡ Some (record { place = n; component = h })
   unfolding step first or_else
   step_here n h lt e = rw (below_next a pos (length r) n lt, e)
 
-  pub step-next : (n : ℕ) → n < length r → pick n ≡ none → step pick r a n ≡ step pick r a (n + a)
+  pub step-next : (n : ℕ) → n < length r → pick n ≡ None → step pick r a n ≡ step pick r a (n + a)
   unfolding step first or_else
   step-next n lt e = rw (below_next a pos (length r) n lt, e)
 
   -- For a loop that takes one step after the other. There are steps enough: each goes on from a later number.
-  next_place_later : Fits → (n : ℕ) (t : Entry) → step pick r a n ≡ some t → (n < next_place r a (entry_end t)) × (n < length r)
+  pub next_place_later : Fits → (n : ℕ) (t : Entry) → step pick r a n ≡ Some t → (n < next_place r a (entry_end t)) × (n < length r)
   next_place_later fits n t e =
       let f : First n t = step_some n t e in
       let far : suc t.place ≤ next_place r a (entry_end t) =
@@ -261,12 +262,12 @@ module _ (pick : Pick) (r : List ℕ) (a : ℕ) (pos : 0 < a) where
     where
       go : (o : Option Entry) → step pick r a n ≡ o → ((m : ℕ) → length r - m ≤ k → length r - m ≤ k' → steps pick r a k m ≡ steps pick r a k' m)
           → follow (λ m. steps pick r a k m) (λ t. next_place r a (entry_end t)) o ≡ follow (λ m. steps pick r a k' m) (λ t. next_place r a (entry_end t)) o
-      go none e ih = refl
-      go (some t) e ih =
+      go None e ih = refl
+      go (Some t) e ih =
           let l : (n < next_place r a (entry_end t)) × (n < length r) = next_place_later fits n t e in
           ap (λ (ts : List Entry). t ∷ ts) (ih (next_place r a (entry_end t)) (omega arith) (omega arith))
 
-  pub rest_some : Fits → (n : ℕ) (t : Entry) → step pick r a n ≡ some t → listing_from pick r a n ≡ t ∷ listing_from pick r a (next_place r a (entry_end t))
+  pub rest_some : Fits → (n : ℕ) (t : Entry) → step pick r a n ≡ Some t → listing_from pick r a n ≡ t ∷ listing_from pick r a (next_place r a (entry_end t))
   unfolding listing_from steps follow
   rest_some fits n t e =
       let l : (n < next_place r a (entry_end t)) × (n < length r) = next_place_later fits n t e in

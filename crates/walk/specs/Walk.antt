@@ -1,12 +1,10 @@
 -- The two walks over a region's bytes r at the alignment a (document 01, "Components and the two walks").
 -- Places are counted from the region's start. An alignment of 0 has no places.
-use Rattle.std.specs.Prelude.{ℕ, zero, suc, ◌+◌, ◌*◌, ◌-◌, ◌/◌, ◌%◌, ◌≤◌, min, ◌≡◌, List, [], ◌∷◌, Bool, true, false, cond, ◌⊎◌, length, drop}
-use Rattle.std.proofs.Math.Option.{Option, some, none}
+use Rattle.std.specs.Prelude.{ℕ, zero, suc, ◌+◌, ◌*◌, ◌-◌, ◌/◌, ◌%◌, ◌≤◌, min, ◌≡◌, List, [], ◌∷◌, Bool, true, false, cond, ◌⊎◌, length, drop, Option, Some}
+use Rattle.std.specs.Prelude.{None, option_map}
 use Rattle.component.specs.Component.{Component, span_length, judge, judge_skipping_sum, starts_with_magic, header_of}
 use Rattle.bytes_read.specs.Lists.{any}
 use Rattle.cbfs_types.specs.declared.Taken.{Taken}
-use Rattle.walk.specs.declared.WalkStep.{WalkStep}
-use Rattle.walk.specs.declared.WalkStep.TheVariants.{Took, NoneLeft}
 
 -- How many places lie below n.
 unfoldable pub place_count_below : ℕ → ℕ → ℕ
@@ -48,8 +46,8 @@ plain_pick r p = judge (drop p r)
 
 -- What was judged, unless it is bad.
 unfoldable pub unless : (Component → Bool) → Option Component → Option Component
-unless bad none = none
-unless bad (some c) = cond (bad c) none (some c)
+unless bad None = None
+unless bad (Some c) = cond (bad c) None (Some c)
 
 -- The guarded walk takes it only if no later place inside its span carries the magic. "Guarded" is document 01's term, and so is "plain".
 unfoldable pub guarded_pick : List ℕ → ℕ → Pick
@@ -66,12 +64,12 @@ entry_end t = t.place + span_length t.component
 
 -- What is picked at p, or else what comes later.
 unfoldable pub or_else : ℕ → Option Component → Option Entry → Option Entry
-or_else p none rest = rest
-or_else p (some c) rest = some (record { place = p; component = c })
+or_else p None rest = rest
+or_else p (Some c) rest = Some (record { place = p; component = c })
 
 -- The first component taken at the k places from p on.
 unfoldable pub first : Pick → ℕ → ℕ → ℕ → Option Entry
-first pick a zero p = none
+first pick a zero p = None
 first pick a (suc k) p = let rest = first pick a k (p + a) in or_else p (pick p) rest
 
 -- A step from n: the first component that a walk begun there takes.
@@ -88,8 +86,8 @@ next r a t = next_place r a (entry_end t)
 
 -- What a step took, and what the steps after it take.
 unfoldable pub follow : (ℕ → List Entry) → (Entry → ℕ) → Option Entry → List Entry
-follow go after none = []
-follow go after (some t) = t ∷ go (after t)
+follow go after None = []
+follow go after (Some t) = t ∷ go (after t)
 
 -- The steps from n on, each from the number that the last one gave, k of them at most.
 unfoldable pub steps : Pick → List ℕ → ℕ → ℕ → ℕ → List Entry
@@ -112,8 +110,8 @@ guarded_listing r a = listing (guarded_pick r a) r a
 
 -- What is picked at p, before the rest.
 unfoldable pub prepend : ℕ → Option Component → List Entry → List Entry
-prepend p none rest = rest
-prepend p (some c) rest = record { place = p; component = c } ∷ rest
+prepend p None rest = rest
+prepend p (Some c) rest = record { place = p; component = c } ∷ rest
 
 -- All that may be taken at some places, whatever was taken before.
 unfoldable pub picked : Pick → List ℕ → List Entry
@@ -125,9 +123,8 @@ picked pick (p ∷ ps) = let rest = picked pick ps in prepend p (pick p) rest
 abbrev pub taken_of : List ℕ → ℕ → Entry → Taken
 taken_of r a t = record { place = t.place; header = header_of t.component; next = next r a t }
 
-abbrev pub step_answer : List ℕ → ℕ → Option Entry → WalkStep
-step_answer r a none = NoneLeft
-step_answer r a (some t) = Took (taken_of r a t)
+abbrev pub step_answer : List ℕ → ℕ → Option Entry → Option Taken
+step_answer r a t = option_map (taken_of r a) t
 
 -- The walk that the guard chooses.
 abbrev pub pick_of : Bool → List ℕ → ℕ → Pick

@@ -9,7 +9,7 @@ use Rattle.bytes_read.proofs.Tested.{mem_filter}
 use Rattle.walk.specs.Walk.{Entry, pick_of, listing, plain_listing, guarded_listing, taken_of}
 use Rattle.walk_lookup.specs.Lookup.{LookupResult, lookup_refused, lookup_gives, bears, first_or_refused, only_or_refused, lookup_of, bearer_answer}
 use Rattle.cbfs_types.specs.declared.Taken.{Taken}
-use Rattle.walk_lookup.specs.declared.BearerSearch.TheVariants.{At}
+use Rattle.std.specs.Prelude.{Ok}
 
 -- The first of a list is one of it.
 pub first_member : (l : List Entry) (e : Entry) → first_or_refused l ≡ lookup_gives e → Memᴰ e l
@@ -32,6 +32,6 @@ lookup_member false r a name e q = mem_filter (bears name) (plain_listing r a) e
 
 -- From a lookup's answer to the component.
 
-pub found_some : (r : List ℕ) (a : ℕ) (o : LookupResult) (t : Taken) → bearer_answer r a o ≡ At t → (e : Entry) × (o ≡ lookup_gives e) × (taken_of r a e ≡ t)
+pub found_some : (r : List ℕ) (a : ℕ) (o : LookupResult) (t : Taken) → bearer_answer r a o ≡ Ok t → (e : Entry) × (o ≡ lookup_gives e) × (taken_of r a e ≡ t)
 found_some r a (lookup_refused n) t q = let z : ◌≡◌ {A = ℕ} 0 1 = cc in absurd (omega arith)
 found_some r a (lookup_gives e) t q = (e, refl, (cc))

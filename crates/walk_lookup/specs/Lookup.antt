@@ -1,14 +1,13 @@
 -- Lookups by name (document 01, "Components and the two walks"). Any bytes may be asked for; no component has an unfit name.
-use Rattle.std.specs.Prelude.{ℕ, ◌+◌, ◌≡◌, Bool, true, false, cond, take, drop}
+use Rattle.std.specs.Prelude.{ℕ, ◌+◌, ◌≡◌, Bool, true, false, cond, not, map, take, drop, Option, Some, None, Result, Ok, Err}
 use mathlib.Core.List.{List, [], ◌∷◌, ◌++◌, Memᴰ}
-use Rattle.std.proofs.Math.Option.{Option, some, none}
 use Rattle.bytes_read.specs.Bytes.{part_of, eq_bytes}
 use Rattle.bytes_read.specs.Lists.{filter}
 use Rattle.component.specs.Sums.{checksum_matches}
-use Rattle.walk.specs.Walk.{Entry, Pick, plain_pick, guarded_pick, listing_from, plain_listing, guarded_listing, taken_of}
+use Rattle.walk.specs.Walk.{Entry, Pick, pick_with_sum_if, listing_from, plain_listing, guarded_listing, taken_of}
 use Rattle.cbfs_types.specs.declared.Taken.{Taken}
-use Rattle.walk_lookup.specs.declared.BearerSearch.{BearerSearch}
-use Rattle.walk_lookup.specs.declared.BearerSearch.TheVariants.{At, Refused}
+use Rattle.cbfs_types.specs.declared.Refusal.{Refusal}
+use Rattle.region.specs.Region.{refusal_by}
 
 -- The component has the name, byte for byte: it is a bearer of the name, which is document 01's term.
 unfoldable pub bears : List ℕ → Entry → Bool
@@ -34,12 +33,6 @@ only_or_refused (t ∷ u ∷ us) = lookup_refused 11
 unfoldable pub bearers_from : Pick → List ℕ → ℕ → List ℕ → ℕ → List Entry
 bearers_from pick r a name n = filter (bears name) (listing_from pick r a n)
 
-abbrev pub plain_bearers : List ℕ → ℕ → List ℕ → ℕ → List Entry
-plain_bearers r a name n = bearers_from (plain_pick r) r a name n
-
-abbrev pub guarded_bearers : List ℕ → ℕ → List ℕ → ℕ → List Entry
-guarded_bearers r a name n = bearers_from (guarded_pick r a) r a name n
-
 -- What was found at t bears the name, by its header's numbers; and it states no sum, or the right one.
 
 abbrev pub bears_at : List ℕ → List ℕ → Taken → Bool
@@ -47,6 +40,15 @@ bears_at r name t = eq_bytes (part_of (drop t.place r) 24 t.header.namelen) name
 
 abbrev pub bears_with_sum_at : List ℕ → List ℕ → Taken → Bool
 bears_with_sum_at r name t = cond (bears_at r name t) (checksum_matches (take (t.header.offset + t.header.len) (drop t.place r))) false
+
+-- What a lookup goes by: of the guarded walk, what was found before the sum is taken, which is then asked only of what bears the name.
+
+unfoldable pub taken_from : Bool → List ℕ → ℕ → ℕ → List Taken
+taken_from g r a n = map (taken_of r a) (listing_from (pick_with_sum_if (not g) g r a) r a n)
+
+abbrev pub bears_by : Bool → List ℕ → List ℕ → Taken → Bool
+bears_by true r name t = bears_with_sum_at r name t
+bears_by false r name t = bears_at r name t
 
 -- Plain lookup gives the first bearer in the plain listing.
 abbrev pub plain_lookup : List ℕ → ℕ → List ℕ → LookupResult
@@ -63,13 +65,13 @@ lookup_of false r a name = plain_lookup r a name
 
 -- The first of a list.
 abbrev pub first_of : List Entry → Option Entry
-first_of [] = none
-first_of (t ∷ ts) = some t
+first_of [] = None
+first_of (t ∷ ts) = Some t
 
 -- What a lookup answers.
-abbrev pub bearer_answer : List ℕ → ℕ → LookupResult → BearerSearch
-bearer_answer r a (lookup_refused n) = Refused n
-bearer_answer r a (lookup_gives t) = At (taken_of r a t)
+abbrev pub bearer_answer : List ℕ → ℕ → LookupResult → Result Taken Refusal
+bearer_answer r a (lookup_refused n) = Err (refusal_by n)
+bearer_answer r a (lookup_gives t) = Ok (taken_of r a t)
 
 -- For what is promised, of a list l of components.
 

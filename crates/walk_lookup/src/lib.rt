@@ -2,19 +2,14 @@
 #![tactic(auto)]
 
 ghost use Rattle.std.specs.Prelude.{◌≡◌, ◌+◌, ◌≤◌, length};
-ghost use Rattle.walk.specs.Walk.{step_answer, PlaceOrPastEnd};
-ghost use Rattle.walk_lookup.specs.Lookup.{plain_bearers, guarded_bearers, first_of, bears_at, bears_with_sum_at, plain_lookup, guarded_lookup, lookup_of};
-ghost use Rattle.walk_lookup.specs.Lookup.{bearer_answer};
+ghost use Rattle.std.specs.List.{find};
+ghost use Rattle.walk_lookup.specs.Lookup.{taken_from, bears_at, bears_by, plain_lookup, guarded_lookup, lookup_of, bearer_answer};
 
-use cbfs_types::{HEADER_LEN, Taken};
-use walk::WalkStep;
+mod components;
 
-// A component, or the number of a refusal.
-#[derive(Clone, Copy)]
-pub enum BearerSearch {
-    At(Taken),
-    Refused(u32),
-}
+use cbfs_types::{HEADER_LEN, Refusal, Taken};
+use components::Components;
+use region::refusal_by;
 
 // The component t of the region bears the name.
 fn bears_at(r: &[u8], t: Taken, name: &[u8]) -> bool
@@ -27,103 +22,62 @@ fn bears_at(r: &[u8], t: Taken, name: &[u8]) -> bool
     )
 }
 
-// It bears the name, and states no sum or the right one. Where it bears another name its span is not summed.
-fn bears_with_sum_at(r: &[u8], t: Taken, name: &[u8]) -> bool
+// It bears the name and, in the guarded walk, states no sum or the right one. Where it bears another name its span is not summed.
+fn bears_by(guarded: bool, r: &[u8], t: Taken, name: &[u8]) -> bool
     requires { t.place + (t.header.offset + t.header.len) ≤ length r.now }
-    ensures { result ≡ bears_with_sum_at r.now name.now t }
+    ensures { result ≡ bears_by guarded r.now name.now t }
 {
-    if !bears_at(r, t, name) {
-        return false;
-    }
-    let h = t.header;
     let p = t.place;
-    let e = p + (h.offset + h.len);
-    component::checksum_matches(&r[p..e])
+    let e = p + (t.header.offset + t.header.len);
+    bears_at(r, t, name) && (!guarded || component::checksum_matches(&r[p..e]))
 }
 
-// The first component of the plain listing that bears the name.
-fn plain_bearer(r: &[u8], align: usize, name: &[u8]) -> WalkStep
-    ensures { result ≡ step_answer r.now align (first_of (plain_bearers r.now align name.now 0)) }
+// The first component of a walk's listing, from the place `from` on, that bears the name. Of the guarded walk only what bears it is summed: whatever the
+// sum of another, no later place in its span carries the magic, and the walk goes on behind it.
+fn first_bearer(guarded: bool, r: &[u8], align: usize, from: usize, name: &[u8]) -> Option<Taken>
+    ensures { result ≡ find (bears_by guarded r.now name.now) (taken_from guarded r.now align from) }
 {
-    let mut n = 0;
-    while n < r.len() {
-        let s = walk::walk_step(false, r, align, n);
-        match s {
-            WalkStep::NoneLeft => {
-                return WalkStep::NoneLeft;
-            }
-            WalkStep::Took(t) => {
-                if bears_at(r, t, name) {
-                    return WalkStep::Took(t);
-                }
-                n = t.next;
-            }
-        }
+    Components {
+        guarded,
+        r,
+        align,
+        from,
     }
-    WalkStep::NoneLeft
-}
-
-// The first component of the guarded listing, from the place `from` on, that bears the name. Only what bears it is summed: whatever the sum of
-// another, no later place in its span carries the magic, and the walk goes on behind it.
-fn guarded_bearer(r: &[u8], align: usize, from: usize, name: &[u8]) -> WalkStep
-    requires { PlaceOrPastEnd r.now align from }
-    ensures { result ≡ step_answer r.now align (first_of (guarded_bearers r.now align name.now from)) }
-{
-    let mut n = from;
-    while n < r.len() {
-        let s = walk::step_skipping_sum(r, align, n);
-        match s {
-            WalkStep::NoneLeft => {
-                return WalkStep::NoneLeft;
-            }
-            WalkStep::Took(t) => {
-                if bears_with_sum_at(r, t, name) {
-                    return WalkStep::Took(t);
-                }
-                n = t.next;
-            }
-        }
-    }
-    WalkStep::NoneLeft
+    .find(|t| bears_by(guarded, r, *t, name))
 }
 
 // The first bearer of the name in the plain listing, or refusal 10.
-pub fn plain_find(r: &[u8], align: usize, name: &[u8]) -> BearerSearch
+#[tactic(auto, using(crate::proofs::Lookups::plain_answer))]
+pub fn plain_find(r: &[u8], align: usize, name: &[u8]) -> Result<Taken, Refusal>
     ensures value { result ≡ bearer_answer r.now align (plain_lookup r.now align name.now) }
     ensures kept { (r.exit.now ≡ r.entry.now) × (name.exit.now ≡ name.entry.now) }
 {
-    let s = plain_bearer(r, align, name);
-    match s {
-        WalkStep::Took(t) => BearerSearch::At(t),
-        WalkStep::NoneLeft => BearerSearch::Refused(10),
-    }
+    first_bearer(false, r, align, 0, name).ok_or(refusal_by(10))
 }
 
 // The only bearer of the name in the guarded listing, or refusal 10 or 11.
-pub fn guarded_find(r: &[u8], align: usize, name: &[u8]) -> BearerSearch
+#[tactic(auto, using(crate::proofs::Lookups::guarded_missing, crate::proofs::Lookups::guarded_only, crate::proofs::Lookups::guarded_twice))]
+pub fn guarded_find(r: &[u8], align: usize, name: &[u8]) -> Result<Taken, Refusal>
     ensures value { result ≡ bearer_answer r.now align (guarded_lookup r.now align name.now) }
     ensures kept { (r.exit.now ≡ r.entry.now) × (name.exit.now ≡ name.entry.now) }
 {
-    let s = guarded_bearer(r, align, 0, name);
-    match s {
-        WalkStep::NoneLeft => BearerSearch::Refused(10),
-        WalkStep::Took(t) => {
-            let u = guarded_bearer(r, align, t.next, name);
-            match u {
-                WalkStep::NoneLeft => BearerSearch::At(t),
-                WalkStep::Took(_) => BearerSearch::Refused(11),
-            }
-        }
+    let Some(t) = first_bearer(true, r, align, 0, name) else {
+        return Err(refusal_by(10));
+    };
+    match first_bearer(true, r, align, t.next, name) {
+        None => Ok(t),
+        Some(_) => Err(refusal_by(11)),
     }
 }
 
 // The lookup of either walk.
-pub fn find(guarded: bool, r: &[u8], align: usize, name: &[u8]) -> BearerSearch
+pub fn find(guarded: bool, r: &[u8], align: usize, name: &[u8]) -> Result<Taken, Refusal>
     ensures value { result ≡ bearer_answer r.now align (lookup_of guarded r.now align name.now) }
     ensures kept { (r.exit.now ≡ r.entry.now) × (name.exit.now ≡ name.entry.now) }
 {
     if guarded {
-        return guarded_find(r, align, name);
+        guarded_find(r, align, name)
+    } else {
+        plain_find(r, align, name)
     }
-    plain_find(r, align, name)
 }

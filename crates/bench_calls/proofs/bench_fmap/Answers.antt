@@ -1,6 +1,11 @@
-use mathlib.Core.Path.{ap, ◌∙◌}
-use Rattle.bench_calls.specs.Calls.{map_count}
+use Rattle.std.proofs.Common.{arith, sym}
+use Rattle.std.proofs.lemmas.Grind.{common_steps}
+use Rattle.bench_calls.proofs.Refusing.{map_small}
 use Rattle.bench_calls.proofs.bench_fmap.Goals as goal
 
-pub returns-clause-value : goal.returns-clause-value
-returns-clause-value c = c.value_or.ensures ∙ ap map_count c.read-m.ensures.value
+pub encoded-requires : goal.encoded-requires
+encoded-requires c r e =
+    let a = c.args in
+    let small = map_small a.image.now in
+    let said = sym c.read.ensures.value in
+    grind (arith, common_steps, small, said)

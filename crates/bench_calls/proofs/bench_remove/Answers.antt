@@ -1,18 +1,11 @@
-use mathlib.Core.Path.{sym, ap, ◌∙◌}
-use Rattle.bench_calls.specs.Calls.{encoded_edit}
+use Rattle.std.proofs.Common.{arith, sym}
+use Rattle.std.proofs.lemmas.Grind.{common_steps}
 use Rattle.bench_calls.proofs.Refusing.{remove_small}
 use Rattle.bench_calls.proofs.bench_remove.Goals as goal
 
--- an edit's refusal reports a place of the image
-pub encoded_edit-requires : goal.encoded_edit-requires
-encoded_edit-requires c r e =
+pub encoded-requires : goal.encoded-requires
+encoded-requires c r e =
     let a = c.args in
-    remove_small a.image.now a.name.now r (sym c.remove-e.ensures.value ∙ e)
-
-pub returns-clause-value : goal.returns-clause-value
-returns-clause-value c =
-    c.encoded_edit.ensures ∙ ap encoded_edit c.remove-e.ensures.value
-
-pub returns-clause-bytes : goal.returns-clause-bytes
-returns-clause-bytes c =
-    c.remove-e.ensures.bytes
+    let small = remove_small a.image.now a.name.now in
+    let said = sym c.remove.ensures.value in
+    grind (arith, common_steps, small, said)

@@ -1,18 +1,12 @@
-use mathlib.Core.Path.{sym, ap, ◌∙◌}
-use Rattle.bench_calls.specs.Calls.{encoded_edit}
+use Rattle.std.proofs.Common.{◌≡◌, arith, sym}
+use Rattle.std.proofs.lemmas.Grind.{common_steps}
+use Rattle.image_edit.specs.ImageEdit.{image_replace}
 use Rattle.bench_calls.proofs.Refusing.{replace_small}
 use Rattle.bench_calls.proofs.bench_replace.Goals as goal
 
--- an edit's refusal reports a place of the image
-pub encoded_edit-requires : goal.encoded_edit-requires
-encoded_edit-requires c r e =
+pub encoded-requires : goal.encoded-requires
+encoded-requires c r e =
     let a = c.args in
-    replace_small a.image.now a.name.now a.content.now r (sym c.replace-e.ensures.value ∙ e)
-
-pub returns-clause-value : goal.returns-clause-value
-returns-clause-value c =
-    c.encoded_edit.ensures ∙ ap encoded_edit c.replace-e.ensures.value
-
-pub returns-clause-bytes : goal.returns-clause-bytes
-returns-clause-bytes c =
-    c.replace-e.ensures.bytes
+    let small = replace_small a.image.now a.name.now a.content.now in
+    let said : (image_replace a.image.now a.name.now a.content.now).answer ≡ c.replace.result = sym c.replace.ensures.value in
+    grind (arith, common_steps, small, said)

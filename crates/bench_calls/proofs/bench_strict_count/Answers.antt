@@ -1,14 +1,11 @@
-use native.Mathlib.Omega.{arith}
-use mathlib.Core.Path.{ap, ◌∙◌}
-use Rattle.cbfs_types.specs.declared.Directory.{Directory}
-use Rattle.bench_calls.specs.Calls.{directory_count}
+use Rattle.std.proofs.Common.{arith, sym}
+use Rattle.std.proofs.lemmas.Grind.{common_steps}
 use Rattle.bench_calls.proofs.Refusing.{check_small}
 use Rattle.bench_calls.proofs.bench_strict_count.Goals as goal
 
--- the strict check reports a place of the image
-pub value_or-requires : goal.value_or-requires
-value_or-requires c =
-    omega (arith, ap (λ (d : Directory). d.place) c.strict_check-d.ensures.value, check_small c.args.image.now)
-
-pub returns-clause-value : goal.returns-clause-value
-returns-clause-value c = c.value_or.ensures ∙ ap directory_count c.strict_check-d.ensures.value
+pub encoded-requires : goal.encoded-requires
+encoded-requires c r e =
+    let a = c.args in
+    let small = check_small a.image.now in
+    let said = sym c.strict_check.ensures.value in
+    grind (arith, common_steps, small, said)

@@ -1,9 +1,6 @@
-use mathlib.Core.Path.{sym}
-use Rattle.bytes_read.proofs.Numbers.{le_past, le_join}
+use mathlib.Core.Path.{◌∙◌}
+use Rattle.bytes_read.proofs.Numbers.{read_le}
 use Rattle.bytes_read.proofs.le32.Goals as goal
 
-pub returns-then-s-at-clause-value : goal.returns-then-s-at-clause-value
-returns-then-s-at-clause-value c = sym (le_past 4 c.args.s.now _ c.if-s-at.true)
-
 pub returns-clause-value : goal.returns-clause-value
-returns-clause-value c = let a = c.args in le_join 2 a.s.now a.at c.le16.ensures.value c.le16-2.ensures.value
+returns-clause-value c = c.from_le_bytes.ensures ∙ read_le 3 _ _ _ c.bytes.ensures

@@ -25,13 +25,13 @@ returns-then-not-equal_by_words-clause-value c =
     let a = c.args in
     other_field a.s.now a.name.now (sym (compared (goal.at.returns-then-not-equal_by_words-clause-value c).After-equal_by_words) ∙ c.if-not-equal_by_words.true)
 
-pub returns-in-WellFormed-clause-value : goal.returns-in-WellFormed-clause-value
-returns-in-WellFormed-clause-value c =
+pub returns-in-Some-clause-value : goal.returns-in-Some-clause-value
+returns-in-Some-clause-value c =
     let a = c.args in
-    let begins = sym (compared (goal.at.returns-in-WellFormed-clause-value c).After-equal_by_words) ∙ c.if-not-equal_by_words.false in
-    as_long a.s.now a.name.now begins _ (sym c.judge_numbers-j.ensures.value ∙ c.in-WellFormed.is)
+    let begins = sym (compared (goal.at.returns-in-Some-clause-value c).After-equal_by_words) ∙ c.if-not-equal_by_words.false in
+    as_long a.s.now a.name.now begins _ (sym c.judge_numbers.ensures.value ∙ c.in-Some.is)
 
-pub returns-in-IllFormed-clause-value : goal.returns-in-IllFormed-clause-value
-returns-in-IllFormed-clause-value c =
+pub returns-in-None-clause-value : goal.returns-in-None-clause-value
+returns-in-None-clause-value c =
     let a = c.args in
-    ill_named a.s.now a.name.now (sym c.judge_numbers-j.ensures.value ∙ c.in-IllFormed.is)
+    ill_named a.s.now a.name.now (sym c.judge_numbers.ensures.value ∙ c.in-None.is)

@@ -1,11 +1,9 @@
-use Prim.Native.Nat.{◌-◌, ◌%◌, ◌≤◌}
-use mathlib.Core.Path.{◌≡◌}
-use lib.ListN.{length, take}
+use Rattle.std.specs.Prelude.{◌≡◌, ◌+◌, ◌%◌, length}
 use Rattle.component.specs.Sums.{total}
 use Rattle.component.proofs.sum.Given as goal
 
-abbrev pub invariant-loop-i : goal.invariant-loop-i
-invariant-loop-i l = (l.i ≤ length l.s) × (l.t ≡ total (take l.i l.s) % 4294967296)
+abbrev pub invariant-loop-block : goal.invariant-loop-block
+invariant-loop-block l = (l.t + total l.rest) % 4294967296 ≡ total l.s % 4294967296
 
-abbrev pub decreases-loop-i : goal.decreases-loop-i
-decreases-loop-i l = length l.s - l.i
+abbrev pub decreases-loop-block : goal.decreases-loop-block
+decreases-loop-block l = length l.rest

@@ -12,5 +12,5 @@ returns-then-over-eq0 c = distance_at_place c.args.align c.args.n (omega (arith,
 pub overflow_sub-result : goal.overflow_sub-result
 overflow_sub-result c = omega (arith, mod-lt c.args.n {m = c.args.align} (omega (arith, c.if-align-eq0.false)))
 
-pub returns : goal.returns
-returns c = distance_between c.args.align c.args.n (omega (arith, c.if-align-eq0.false)) c.if-over-eq0.false
+pub returns-else-over-eq0 : goal.returns-else-over-eq0
+returns-else-over-eq0 c = distance_between c.args.align c.args.n (omega (arith, c.if-align-eq0.false)) c.if-over-eq0.false

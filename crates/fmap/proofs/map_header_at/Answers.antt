@@ -1,35 +1,45 @@
-use mathlib.Core.Path.{sym, ◌∙◌}
-use native.Mathlib.Omega.{arith}
-use Rattle.fmap.proofs.Reading.{HeaderPassed, header_passed, not_refused, at_refused, at_read, map_header, refused_map_header_lem, same_header}
+use Rattle.std.proofs.Common.{arith}
+use Rattle.std.proofs.lemmas.Result.{err_from_is_err_and}
+use Rattle.fmap.proofs.Reading.{HeaderPassed, header_refused, header_is, each_area_refused, all_areas_refused, map_read}
 use Rattle.fmap.proofs.map_header_at.Goals as goal
-use Rattle.fmap.proofs.map_header_at.Goals.{Else-n-ne0}
+use Rattle.fmap.proofs.map_header_at.Goals.{In_ok-check_header}
 
--- what is known of a map that is not refused
-head : (c : Else-n-ne0) → HeaderPassed c.args.s.now c.args.at c.args.size
-head c =
-    let a = c.args in
-    header_passed a.s.now a.at a.size (not_refused a.s.now a.at a.size (sym c.refusal_at-n.ensures ∙ c.if-n-ne0.false)).0
+-- what is known of a header that is not refused
+head : (c : In_ok-check_header) → HeaderPassed c.args.s.now c.args.at c.args.size
+head c = header_is c.args.s.now c.args.at c.args.size c.in_ok-check_header.ensures
 
-pub returns-then-n-ne0 : goal.returns-then-n-ne0
-returns-then-n-ne0 c =
-    let a = c.args in
-    same_header (refused_map_header_lem a.s.now c.refused_map_header.ensures)
-    (at_refused a.s.now a.at a.size c.refusal_at-n.ensures c.if-n-ne0.true)
+pub returns-in_err-check_header : goal.returns-in_err-check_header
+returns-in_err-check_header c =
+    let p = err_from_is_err_and c.from_residual.result c.from_residual.ensures.1 in
+    rw (p.1, p.2) (header_refused c.args.s.now c.args.at c.args.size c.in_err-check_header.ensures)
+
+pub overflow_add-areas : goal.overflow_add-areas
+overflow_add-areas c = omega (arith, (head (goal.at.overflow_add-areas c).In_ok-check_header).within)
 
 pub overflow_add-at : goal.overflow_add-at
-overflow_add-at c = omega (arith, (head (goal.at.overflow_add-at c).Else-n-ne0).within)
+overflow_add-at c = omega (arith, (head (goal.at.overflow_add-at c).In_ok-check_header).within)
 
-pub overflow_add-at-2 : goal.overflow_add-at-2
-overflow_add-at-2 c = omega (arith, (head (goal.at.overflow_add-at-2 c).Else-n-ne0).within)
+pub invariant_of-areas : goal.invariant_of-areas
+invariant_of-areas c =
+    record { inside = omega (arith, (head (goal.at.invariant_of-areas c).In_ok-check_header).within, c.le16.ensures.value) }
 
-pub overflow_add-at-3 : goal.overflow_add-at-3
-overflow_add-at-3 c = omega (arith, (head (goal.at.overflow_add-at-3 c).Else-n-ne0).within)
+pub returns-in_err-check_each_area : goal.returns-in_err-check_each_area
+returns-in_err-check_each_area c =
+    let a = c.args in
+    let p = err_from_is_err_and c.from_residual-in_err-check_each_area.result c.from_residual-in_err-check_each_area.ensures.1 in
+    rw (p.1, p.2) (each_area_refused a.s.now a.at a.size c.in_ok-check_header.ensures c.le16.ensures.value c.in_err-check_each_area.ensures)
 
-pub overflow_add-result : goal.overflow_add-result
-overflow_add-result c = omega (arith, (head (goal.at.overflow_add-result c).Else-n-ne0).within)
+pub returns-in_err-check_all_areas : goal.returns-in_err-check_all_areas
+returns-in_err-check_all_areas c =
+    let a = c.args in
+    let p = err_from_is_err_and c.from_residual-in_err-check_all_areas.result c.from_residual-in_err-check_all_areas.ensures.1 in
+    rw (p.1, p.2) (all_areas_refused a.s.now a.at a.size c.in_ok-check_header.ensures c.le16.ensures.value
+    c.in_ok-check_each_area.ensures c.in_err-check_all_areas.ensures)
 
 pub returns : goal.returns
 returns c =
-    let a = c.args in
-    let h = map_header a.s.now a.at c.le16.ensures.value c.byte.ensures.value c.le64.ensures.value (head (goal.at.returns c).Else-n-ne0).within (head (goal.at.returns c).Else-n-ne0).no_more in
-    same_header h (at_read a.s.now a.at a.size c.refusal_at-n.ensures c.if-n-ne0.false)
+    let a = c.args in (
+      omega (arith, (head (goal.at.returns c).In_ok-check_header).no_more, c.le16.ensures.value),
+      map_read a.s.now a.at a.size c.in_ok-check_header.ensures c.le16.ensures.value c.in_ok-check_each_area.ensures
+          c.in_ok-check_all_areas.ensures c.byte.ensures.value c.le64.ensures.value,
+    )

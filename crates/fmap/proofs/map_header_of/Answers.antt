@@ -1,36 +1,22 @@
-use Prim.Native.Nat.{ℕ}
-use mathlib.Core.Path.{◌≡◌, sym, ◌∙◌}
-use mathlib.Core.Bool.{true}
-use mathlib.Core.List.{List}
+use Rattle.std.proofs.Common.{◌≡◌, true, sym, ◌∙◌}
+use Rattle.std.proofs.lemmas.Result.{err_from_is_err_and}
 use Rattle.region.specs.Refusals.{length_fits}
-use Rattle.fmap.proofs.Reading.{unfit_length, no_signature, many_signatures, one_signature, refused_map_header_lem, same_header}
+use Rattle.fmap.proofs.Reading.{unfit_length, not_one_signature, one_signature}
 use Rattle.fmap.proofs.map_header_of.Goals as goal
-use Rattle.fmap.proofs.map_header_of.Goals.{After-length_fits, Else-not-length_fits}
+use Rattle.fmap.proofs.map_header_of.Goals.{Else-not-length_fits}
 
--- the image, and that its length fits
-abbrev image : After-length_fits → List ℕ
-image c = c.args.image.now
-
-fits : (c : Else-not-length_fits) → length_fits (image (goal.at.Else-not-length_fits c).After-length_fits) ≡ true
+-- the image's length fits
+fits : (c : Else-not-length_fits) → length_fits c.args.image.now ≡ true
 fits c = sym c.length_fits.ensures.value ∙ c.if-not-length_fits.false
 
 pub returns-then-not-length_fits : goal.returns-then-not-length_fits
 returns-then-not-length_fits c =
-    let i = image (goal.at.returns-then-not-length_fits c).After-length_fits in
-    same_header (refused_map_header_lem i c.refused_map_header.ensures) (unfit_length i (sym c.length_fits.ensures.value ∙ c.if-not-length_fits.true))
+    rw c.refusal_by.ensures (unfit_length c.args.image.now (sym c.length_fits.ensures.value ∙ c.if-not-length_fits.true))
 
-pub returns-in-NotFound : goal.returns-in-NotFound
-returns-in-NotFound c =
-    let i = image (goal.at.returns-in-NotFound c).After-length_fits in
-    same_header (refused_map_header_lem i c.refused_map_header-in-NotFound.ensures)
-    (no_signature i (fits (goal.at.returns-in-NotFound c).Else-not-length_fits) (sym c.signatures-f.ensures.value ∙ c.in-NotFound.is))
+pub returns-in_err-at : goal.returns-in_err-at
+returns-in_err-at c =
+    let p = err_from_is_err_and c.from_residual.result c.from_residual.ensures.1 in
+    rw (p.1, p.2) (not_one_signature c.args.image.now (fits (goal.at.returns-in_err-at c).Else-not-length_fits) c.in_err-at.ensures.value)
 
-pub returns-in-Several : goal.returns-in-Several
-returns-in-Several c =
-    let i = image (goal.at.returns-in-Several c).After-length_fits in
-    same_header (refused_map_header_lem i c.refused_map_header-in-Several.ensures)
-    (many_signatures i (fits (goal.at.returns-in-Several c).Else-not-length_fits) (sym c.signatures-f.ensures.value ∙ c.in-Several.is))
-
-pub returns-in-Found : goal.returns-in-Found
-returns-in-Found c =
-    same_header c.map_header_at.ensures (one_signature (image (goal.at.returns-in-Found c).After-length_fits) (fits (goal.at.returns-in-Found c).Else-not-length_fits) (sym c.signatures-f.ensures.value ∙ c.in-Found.is))
+pub returns : goal.returns
+returns c = rw (one_signature c.args.image.now (fits (goal.at.returns c).Else-not-length_fits) c.in_ok-at.ensures.value) c.map_header_at.ensures

@@ -1,12 +1,12 @@
 use mathlib.Core.Path.{sym, ◌∙◌}
 use Rattle.image_find.proofs.name_at.Goals as goal
 
-pub returns-in-Read-clause-result_value : goal.returns-in-Read-clause-result_value
-returns-in-Read-clause-result_value c =
-    let e = sym c.read-m.ensures.value ∙ c.in-Read.is in
+pub returns-in-Ok-clause-result_value : goal.returns-in-Ok-clause-result_value
+returns-in-Ok-clause-result_value c =
+    let e = sym c.read.ensures.value ∙ c.in-Ok.is in
     c.name_at_in.ensures.result_value ∙ rw e
 
-pub returns-in-Refused-clause-result_value : goal.returns-in-Refused-clause-result_value
-returns-in-Refused-clause-result_value c =
-    let e = sym c.read-m.ensures.value ∙ c.in-Refused.is in
+pub returns-in-Err-clause-result_value : goal.returns-in-Err-clause-result_value
+returns-in-Err-clause-result_value c =
+    let e = sym c.read.ensures.value ∙ c.in-Err.is in
     rw e

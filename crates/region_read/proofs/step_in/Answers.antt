@@ -1,14 +1,14 @@
 use Prim.Native.Nat.{ℕ, ◌-◌}
 use mathlib.Core.Path.{◌≡◌, sym, ◌∙◌}
 use mathlib.Core.List.{List}
-use mathlib.Core.Option.{Option}
+use Rattle.std.specs.Prelude.{Option}
 use native.Mathlib.Omega.{arith}
 use Rattle.walk.specs.Walk.{Entry, pick_of, step, step_answer}
 use Rattle.region.specs.Region.{region_bytes}
 use Rattle.region_read.proofs.Numbers.{fit_from}
 use Rattle.region_read.proofs.Answers.{step_sums, step_answer_took, step_answer_none, refused_nine, step_fit}
 use Rattle.region_read.proofs.step_in.Goals as goal
-use Rattle.region_read.proofs.step_in.Goals.{After-walk_step-s}
+use Rattle.region_read.proofs.step_in.Goals.{After-walk_step}
 
 pub returns-then-not-is_step_start-clause-value : goal.returns-then-not-is_step_start-clause-value
 returns-then-not-is_step_start-clause-value c =
@@ -21,33 +21,33 @@ overflow_sub-from c =
     omega (arith, fit_from a.region a.from (sym c.is_step_start.ensures ∙ c.if-not-is_step_start.false))
 
 -- the region's bytes, and the step over them
-abbrev region : After-walk_step-s → List ℕ
+abbrev region : After-walk_step → List ℕ
 region c = region_bytes c.args.image.now c.args.region
 
-abbrev stepping : After-walk_step-s → Option Entry
+abbrev stepping : After-walk_step → Option Entry
 stepping c =
-    step (pick_of c.args.guarded (region (goal.at.After-walk_step-s c).After-walk_step-s) c.args.region.align) (region (goal.at.After-walk_step-s c).After-walk_step-s) c.args.region.align
+    step (pick_of c.args.guarded (region (goal.at.After-walk_step c).After-walk_step) c.args.region.align) (region (goal.at.After-walk_step c).After-walk_step) c.args.region.align
     (c.args.from - c.args.region.start)
 
-said : (c : After-walk_step-s) → step_answer (region (goal.at.After-walk_step-s c).After-walk_step-s) c.args.region.align (stepping (goal.at.After-walk_step-s c).After-walk_step-s) ≡ c.walk_step-s.result
-said c = sym (rw c.bytes.ensures.result_value at c.walk_step-s.ensures.value)
+said : (c : After-walk_step) → step_answer (region (goal.at.After-walk_step c).After-walk_step) c.args.region.align (stepping (goal.at.After-walk_step c).After-walk_step) ≡ c.walk_step.result
+said c = sym (rw c.bytes.ensures.result_value at c.walk_step.ensures.value)
 
 pub shift-requires : goal.shift-requires
 shift-requires c =
     let a = c.args in
-    let b = step_sums a.image.now a.region a.guarded (a.from - a.region.start) _ (said (goal.at.shift-requires c).After-walk_step-s ∙ c.in-Took.is) in
+    let b = step_sums a.image.now a.region a.guarded (a.from - a.region.start) _ (said (goal.at.shift-requires c).After-walk_step ∙ c.in-Some.is) in
     (omega (arith, b, c.well_formed), omega (arith, b, c.well_formed))
 
-pub returns-in-Took-clause-value : goal.returns-in-Took-clause-value
-returns-in-Took-clause-value c =
+pub returns-in-Some-clause-value : goal.returns-in-Some-clause-value
+returns-in-Some-clause-value c =
     let a = c.args in
-    step_fit a.image.now a.region (pick_of a.guarded (region (goal.at.returns-in-Took-clause-value c).After-walk_step-s) a.region.align) a.from c.is_step_start.ensures
+    step_fit a.image.now a.region (pick_of a.guarded (region (goal.at.returns-in-Some-clause-value c).After-walk_step) a.region.align) a.from c.is_step_start.ensures
     c.if-not-is_step_start.false
-    (step_answer_took a.image.now a.region (stepping (goal.at.returns-in-Took-clause-value c).After-walk_step-s) _ (said (goal.at.returns-in-Took-clause-value c).After-walk_step-s ∙ c.in-Took.is) c.shift.ensures)
+    (step_answer_took a.image.now a.region (stepping (goal.at.returns-in-Some-clause-value c).After-walk_step) _ (said (goal.at.returns-in-Some-clause-value c).After-walk_step ∙ c.in-Some.is) c.shift.ensures)
 
-pub returns-in-NoneLeft-clause-value : goal.returns-in-NoneLeft-clause-value
-returns-in-NoneLeft-clause-value c =
+pub returns-in-None-clause-value : goal.returns-in-None-clause-value
+returns-in-None-clause-value c =
     let a = c.args in
-    step_fit a.image.now a.region (pick_of a.guarded (region (goal.at.returns-in-NoneLeft-clause-value c).After-walk_step-s) a.region.align) a.from c.is_step_start.ensures
+    step_fit a.image.now a.region (pick_of a.guarded (region (goal.at.returns-in-None-clause-value c).After-walk_step) a.region.align) a.from c.is_step_start.ensures
     c.if-not-is_step_start.false
-    (step_answer_none a.image.now a.region (stepping (goal.at.returns-in-NoneLeft-clause-value c).After-walk_step-s) (said (goal.at.returns-in-NoneLeft-clause-value c).After-walk_step-s ∙ c.in-NoneLeft.is))
+    (step_answer_none a.image.now a.region (stepping (goal.at.returns-in-None-clause-value c).After-walk_step) (said (goal.at.returns-in-None-clause-value c).After-walk_step ∙ c.in-None.is))

@@ -1,8 +1,0 @@
-use borrow.Author.Tests.{eq-eqb, ne_eqb}
-use Rattle.load_payload.proofs.judged_by.Goals as goal
-
-pub returns-then-n-ne0 : goal.returns-then-n-ne0
-returns-then-n-ne0 c = rw (ne_eqb _ _ c.if-n-ne0.true)
-
-pub returns : goal.returns
-returns c = rw (eq-eqb _ _ c.if-n-ne0.false)
