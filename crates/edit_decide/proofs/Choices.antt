@@ -23,7 +23,8 @@ use Rattle.strict_rules.specs.Strict.{component_limit, Accepted, Verdict, check_
 use Rattle.strict_check.specs.StrictCheck.{check_summary, stored_places, has_name}
 use Rattle.strict_check.proofs.Answers.{check_into_fine}
 use Rattle.strict_rules.proofs.Accepting.{walks_agree}
-use Rattle.edit_rules.specs.Edit.{Run, run_fits, runs, free_runs, lowest_fitting, EntrySlot, slot_of, span_bytes, offset_for, contains_magic, Decision, refuse, write}
+use Rattle.edit_rules.specs.Edit.{Run, run_fits, runs, free_runs, lowest_fitting, EntrySlot, slot_of, span_bytes, offset_for, contains_magic, Decision}
+use Rattle.edit_rules.specs.Edit.{refuse, write}
 use Rattle.edit_rules.specs.Edit.{after_check, add_after_check, replace_after_check, remove_after_check, add_decision, replace_decision, remove_decision}
 use Rattle.edit_slots.specs.SlotsByPlaces.{run, slot_from, free_run_answer, slot_answer, runs_between, slot_among}
 use Rattle.edit_decide.specs.Choices.{ListedPlaces, slot_kind, accepted_decision, kind_for, choice, remove_choice_among, decided}
@@ -152,7 +153,8 @@ module _ (r : List ℕ) (a : ℕ) (ps : List ℕ) (q : ListedPlaces r a ps) wher
   pub slot_by : (name : List ℕ) {x : Option Slot} → x ≡ slot_among r name ps → x ≡ slot_answer (slot_of (length r) name (plain_listing r a))
   slot_by name e = e ∙ ap (slot_among r name) q ∙ slot_listed r a name
 
-  pub run_by : (k n : ℕ) {x : Option Slot} → x ≡ free_run_answer k (lowest_fitting n (runs_between r a 0 ps)) → x ≡ free_run_answer k (lowest_fitting n (free_runs r a))
+  pub run_by : (k n : ℕ) {x : Option Slot} → x ≡ free_run_answer k (lowest_fitting n (runs_between r a 0 ps)) → x ≡ free_run_answer k
+      (lowest_fitting n (free_runs r a))
   run_by k n e =
       e ∙ ap (λ (l : List ℕ). free_run_answer k (lowest_fitting n (runs_between r a 0 l))) q
       ∙ ap (λ (l : List Run). free_run_answer k (lowest_fitting n l)) (runs-listed r a)

@@ -288,11 +288,13 @@ module _ (name : List ℕ) (kind : ℕ) (content : List ℕ) where
       where
         in_name : (q : ℕ) → Place a q → 24 ≤ q → q + 8 ≤ 24 + length name → magic_at s q ≡ false
         in_name q pl l k = let (i, e) = distance_on a 24 q pos pl l in
-            rw e (in_name_lem (distance_to_place a 24 + i * a) (omega arith) ∙ next_no_magic name a pos (distance_to_place a 24) (length name) n i (omega arith))
+            rw e (in_name_lem (distance_to_place a 24 + i * a) (omega arith) ∙ next_no_magic name a pos (distance_to_place a 24) (length name) n i
+            (omega arith))
 
         in_content : (q : ℕ) → Place a q → offset_for name ≤ q → magic_at s q ≡ false
         in_content q pl l = let (i, e) = distance_on a (offset_for name) q pos pl l in
-            rw e (in_content_lem (distance_to_place a (offset_for name) + i * a) ∙ past i (dec_lt (distance_to_place a (offset_for name) + i * a) (length content)))
+            rw e (in_content_lem (distance_to_place a (offset_for name) + i * a) ∙ past i
+            (dec_lt (distance_to_place a (offset_for name) + i * a) (length content)))
           where
             past : (i : ℕ) → Dec (distance_to_place a (offset_for name) + i * a < length content)
                 → magic_at content (distance_to_place a (offset_for name) + i * a) ≡ false

@@ -4,7 +4,8 @@ use Rattle.walk.specs.Walk.{place_count_below, plain_listing}
 use Rattle.region.specs.Region.{region_bytes, refusal_by, refusal_in}
 use Rattle.cbfs_types.specs.declared.Region.{Region}
 use Rattle.strict_rules.specs.Strict.{component_limit, component_places}
-use Rattle.edit_rules.specs.Edit.{span_bytes, EntrySlot, slot_of, Decision, refuse, write, add_after_check, replace_after_check, remove_after_check, add_decision}
+use Rattle.edit_rules.specs.Edit.{span_bytes, EntrySlot, slot_of, Decision, refuse, write, add_after_check, replace_after_check, remove_after_check}
+use Rattle.edit_rules.specs.Edit.{add_decision}
 use Rattle.edit_rules.specs.Edit.{replace_decision, remove_decision}
 use Rattle.edit_slots.specs.SlotsByPlaces.{slot_from}
 use Rattle.edit_slots.specs.declared.Slot.{Slot}

@@ -36,7 +36,8 @@ header_parts len kind sum offset = simp append_assoc
 
 -- A header that is written over 24 zeros, by numbers with the four bytes of its fields.
 pub header_whole : (name : List ℕ) (kind : ℕ) (content : List ℕ) (l u o : ℕ) → be_bytes 4 l ≡ be_bytes 4 (length content)
-    → u ≡ sum_for name kind content → be_bytes 4 o ≡ be_bytes 4 (offset_for name) → splice (replicate 24 0) 0 (header_bytes l kind u o) ≡ header_for name kind content
+    → u ≡ sum_for name kind content → be_bytes 4 o ≡ be_bytes 4 (offset_for name) → splice (replicate 24 0) 0 (header_bytes l kind u o)
+    ≡ header_for name kind content
 unfolding header_bytes
 header_whole name kind content l u o e s f =
     splice_all (replicate 24 0) (header_bytes l kind u o) (length_header l kind u o) ∙ same

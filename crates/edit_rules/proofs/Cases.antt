@@ -42,25 +42,29 @@ unfoldable list_a : List Entry
 list_a = here 0 0x32 100 ∷ here 192 0x33 24 ∷ []
 
 listed_64 : plain_listing region_a 64 ≡ list_a
-unfolding judge_definitions filter place_count_below places magic_at plain_pick or_else first next_place step follow steps listing_from bears lists_place is_untaken
+unfolding judge_definitions filter place_count_below places magic_at plain_pick or_else first next_place step follow steps listing_from bears lists_place
+    is_untaken
     untaken_places
     no_two field_length header_bytes field_bytes span_bytes larchive cal head slot0 slot192 region here list_a
 listed_64 = refl
 
 accepted_64 : Accepted region_a 64
-unfolding judge_definitions filter place_count_below places magic_at plain_pick or_else first next_place step follow steps listing_from bears lists_place is_untaken
+unfolding judge_definitions filter place_count_below places magic_at plain_pick or_else first next_place step follow steps listing_from bears lists_place
+    is_untaken
     untaken_places
     no_two field_length header_bytes field_bytes span_bytes larchive cal head slot0 slot192 region here list_a
 accepted_64 = record { all_taken = refl; at_most = lit≤ tt; names_are_distinct = refl }
 
 listed_16 : plain_listing region_a 16 ≡ list_a
-unfolding judge_definitions filter place_count_below places magic_at plain_pick or_else first next_place step follow steps listing_from bears lists_place is_untaken
+unfolding judge_definitions filter place_count_below places magic_at plain_pick or_else first next_place step follow steps listing_from bears lists_place
+    is_untaken
     untaken_places
     no_two field_length header_bytes field_bytes span_bytes larchive cal head slot0 slot192 region here list_a
 listed_16 = refl
 
 accepted_16 : Accepted region_a 16
-unfolding judge_definitions filter place_count_below places magic_at plain_pick or_else first next_place step follow steps listing_from bears lists_place is_untaken
+unfolding judge_definitions filter place_count_below places magic_at plain_pick or_else first next_place step follow steps listing_from bears lists_place
+    is_untaken
     untaken_places
     no_two field_length header_bytes field_bytes span_bytes larchive cal head slot0 slot192 region here list_a
 accepted_16 = record { all_taken = refl; at_most = lit≤ tt; names_are_distinct = refl }
@@ -80,7 +84,8 @@ replaces name put =
     ∙ ap (λ (l : List Entry). carried_out region_a (replace_after_check 64 name put (slot_of (length region_a) name l))) listed_64
 
 removes : (name : List ℕ) → remove component_limit region_a 64 name ≡ carried_out region_a (remove_after_check (slot_of (length region_a) name list_a))
-removes name = remove_on region_a 64 accepted_64 name ∙ ap (λ (l : List Entry). carried_out region_a (remove_after_check (slot_of (length region_a) name l))) listed_64
+removes name = remove_on region_a 64 accepted_64 name ∙ ap (λ (l : List Entry). carried_out region_a (remove_after_check (slot_of (length region_a) name l)))
+    listed_64
 
 -- At align 16 the name xxxxxxxxLARCHIVE has the magic at byte 32.
 names : (name : List ℕ) → add component_limit region_a 16 name 0x50 [] ≡ carried_out region_a
@@ -112,11 +117,14 @@ pub bench :
     ∷ (add component_limit region_a 64 [] 0x50 []).answer
     ∷ (add component_limit region_a 16 (replicate 8 0x78 ++ magic) 0x50 []).answer
     ∷ []
-    ≡ edit_done 0 ∷ edit_refused 17 0 ∷ edit_done 256 ∷ edit_refused 17 0 ∷ edit_refused 16 0 ∷ edit_done 256 ∷ edit_done 192 ∷ edit_refused 10 0 ∷ edit_refused 10 0
+    ≡ edit_done 0 ∷ edit_refused 17 0 ∷ edit_done 256 ∷ edit_refused 17 0 ∷ edit_refused 16 0 ∷ edit_done 256 ∷ edit_done 192 ∷ edit_refused 10 0 ∷
+    edit_refused 10 0
     ∷ edit_refused 15 0 ∷ edit_refused 14 0 ∷ edit_refused 16 0 ∷ []
-unfolding judge_definitions place_count_below places magic_at magic_inside next_place bears first_start field_length header_bytes field_bytes span_stating sum_for
+unfolding judge_definitions place_count_below places magic_at magic_inside next_place bears first_start field_length header_bytes field_bytes span_stating
+    sum_for
     span_bytes
-    contains_magic runs lowest_fitting slot_of add_after_check replace_after_check remove_after_check carried_out larchive cal head slot0 slot192 region log magic_from
+    contains_magic runs lowest_fitting slot_of add_after_check replace_after_check remove_after_check carried_out larchive cal head slot0 slot192 region log
+    magic_from
     here list_a
 bench =
     and (reply_of (replaces (cal 0x32) (replicate 152 0))) (

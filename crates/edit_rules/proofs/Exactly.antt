@@ -29,7 +29,8 @@ use Rattle.strict_rules.proofs.Bearing.{lone}
 use Rattle.strict_rules.proofs.Verdicts.{accepted_exactly, no_other}
 use Rattle.strict_rules.proofs.Exactly.{magic_words, check_exactly}
 use Rattle.edit_rules.specs.Edit.{Free, Run, run_fits, EntrySlot, slot_of, free_runs, lowest_fitting, contains_magic, span_bytes, Decision, refuse, write}
-use Rattle.edit_rules.specs.Edit.{after_check, add_after_check, replace_after_check, remove_after_check, add_decision, replace_decision, remove_decision, edit_done}
+use Rattle.edit_rules.specs.Edit.{after_check, add_after_check, replace_after_check, remove_after_check, add_decision, replace_decision, remove_decision}
+use Rattle.edit_rules.specs.Edit.{edit_done}
 use Rattle.edit_rules.specs.Edit.{add, remove, insert_entry, remove_entry, FitsRunAt, AddPassesTo13}
 use Rattle.edit_rules.specs.Table.{UnfitName, ContainsMagic, SlotShort, add_rows, replace_rows, remove_rows, decision_number}
 use Rattle.edit_rules.proofs.Written.{length_span}

@@ -46,7 +46,8 @@ module _ {m n : ℕ} (more : m ≤ n) (r : List ℕ) (a : ℕ) where
 
   pub add_more : (name : List ℕ) (kind : ℕ) (content : List ℕ) → SameBut13 (add_decision m r a name kind content) (add_decision n r a name kind content)
   add_more name kind content = let s = span_bytes name kind content in
-      after_check_more (add_after_check m r a name s (plain_listing r a)) (add_after_check n r a name s (plain_listing r a)) (adding_more name s (plain_listing r a))
+      after_check_more (add_after_check m r a name s (plain_listing r a)) (add_after_check n r a name s (plain_listing r a))
+      (adding_more name s (plain_listing r a))
 
   pub replace_more : (name content : List ℕ) → SameBut13 (replace_decision m r a name content) (replace_decision n r a name content)
   replace_more name content = let d = replace_after_check a name content (slot_of (length r) name (plain_listing r a)) in after_check_more d d (inr refl)

@@ -235,7 +235,8 @@ module _ (r : List ℕ) (a : ℕ) (big : 8 ≤ a) (acc : Accepted r a) (name : L
       go i e true c = absurd (true≢false (sym (own i c) ∙ e))
 
 -- A slot that is filled anew.
-module _ (r : List ℕ) (a : ℕ) (big : 8 ≤ a) (acc : Accepted r a) (name : List ℕ) (z : EntrySlot) (is : slot_of (length r) name (plain_listing r a) ≡ Some z) where
+module _ (r : List ℕ) (a : ℕ) (big : 8 ≤ a) (acc : Accepted r a) (name : List ℕ) (z : EntrySlot)
+    (is : slot_of (length r) name (plain_listing r a) ≡ Some z) where
   abbrev pos₂ : 0 < a
   pos₂ = omega arith
 

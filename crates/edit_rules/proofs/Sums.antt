@@ -20,7 +20,8 @@ module _ (name : List ℕ) (kind : ℕ) (content : List ℕ) where
   by_parts_lem = span_total (sum_for name kind content) name kind content
 
   pub sum_exact : AllBytes name → AllBytes content → length (span_bytes name kind content) ≤ 16777216
-      → (checksum_of (span_bytes name kind content) ≡ total (checksum_zeroed (span_bytes name kind content))) × (590 ≤ checksum_of (span_bytes name kind content))
+      → (checksum_of (span_bytes name kind content) ≡ total (checksum_zeroed (span_bytes name kind content)))
+      × (590 ≤ checksum_of (span_bytes name kind content))
   unfolding span_sum
   sum_exact bn bc l = (e, omega (arith, e, by_parts_lem))
     where

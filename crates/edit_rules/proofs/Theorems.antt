@@ -98,7 +98,8 @@ module _ (r : List ℕ) (a : ℕ) where
       → Added r a name kind put p (add component_limit r a name kind put).bytes
   unfolding add
   add_done big name kind put p typed e =
-      let d = does r (after_check (verdict component_limit r a) (add_after_check component_limit r a name (span_bytes name kind put) (plain_listing r a))) p e in
+      let d = does r (after_check (verdict component_limit r a) (add_after_check component_limit r a name (span_bytes name kind put) (plain_listing r a))) p e
+      in
       let f = check_write r a (add_after_check component_limit r a name (span_bytes name kind put) (plain_listing r a)) d.run d.bytes d.writes in
       go f.0 (add_case component_limit r a name (span_bytes name kind put) (plain_listing r a)) d.run d.bytes f.1 d.place _ d.after
     where
@@ -167,7 +168,8 @@ module _ (r : List ℕ) (a : ℕ) where
   pub add_accepted : (name : List ℕ) (kind : ℕ) (put : List ℕ) (p : ℕ) → (add component_limit r a name kind put).answer ≡ edit_done p → Accepted r a
   unfolding add
   add_accepted name kind put p e =
-      let d = does r (after_check (verdict component_limit r a) (add_after_check component_limit r a name (span_bytes name kind put) (plain_listing r a))) p e in
+      let d = does r (after_check (verdict component_limit r a) (add_after_check component_limit r a name (span_bytes name kind put) (plain_listing r a))) p e
+      in
       (check_write r a (add_after_check component_limit r a name (span_bytes name kind put) (plain_listing r a)) d.run d.bytes d.writes).0
 
   -- On an accepted region an edit is decided by its own tests.
@@ -175,13 +177,15 @@ module _ (r : List ℕ) (a : ℕ) where
   pub add_on : Accepted r a → (name : List ℕ) (kind : ℕ) (put : List ℕ)
       → add component_limit r a name kind put ≡ carried_out r (add_after_check component_limit r a name (span_bytes name kind put) (plain_listing r a))
   unfolding add
-  add_on acc name kind put = ap (carried_out r) (check_accepted_lem r a (add_after_check component_limit r a name (span_bytes name kind put) (plain_listing r a)) acc)
+  add_on acc name kind put = ap (carried_out r)
+      (check_accepted_lem r a (add_after_check component_limit r a name (span_bytes name kind put) (plain_listing r a)) acc)
 
   pub replace_on : Accepted r a → (name put : List ℕ)
       → replace component_limit r a name put ≡ carried_out r (replace_after_check a name put (slot_of (length r) name (plain_listing r a)))
   unfolding replace
   replace_on acc name put = ap (carried_out r) (check_accepted_lem r a (replace_after_check a name put (slot_of (length r) name (plain_listing r a))) acc)
 
-  pub remove_on : Accepted r a → (name : List ℕ) → remove component_limit r a name ≡ carried_out r (remove_after_check (slot_of (length r) name (plain_listing r a)))
+  pub remove_on : Accepted r a → (name : List ℕ) → remove component_limit r a name ≡ carried_out r
+      (remove_after_check (slot_of (length r) name (plain_listing r a)))
   unfolding remove
   remove_on acc name = ap (carried_out r) (check_accepted_lem r a (remove_after_check (slot_of (length r) name (plain_listing r a))) acc)

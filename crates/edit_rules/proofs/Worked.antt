@@ -10,7 +10,8 @@ use Rattle.component.specs.Component.{magic, starts_with_magic}
 use Rattle.walk.specs.Walk.{Entry, place_count_below, places, magic_at, magic_inside, next_place}
 use Rattle.walk_lookup.specs.Lookup.{bears}
 use Rattle.strict_rules.specs.Strict.{component_limit}
-use Rattle.edit_rules.specs.Edit.{Run, run_fits, field_length, header_bytes, field_bytes, span_stating, sum_for, span_bytes, contains_magic, runs, lowest_fitting}
+use Rattle.edit_rules.specs.Edit.{Run, run_fits, field_length, header_bytes, field_bytes, span_stating, sum_for, span_bytes, contains_magic, runs}
+use Rattle.edit_rules.specs.Edit.{lowest_fitting}
 use Rattle.edit_rules.specs.Edit.{slot_filled, add_after_check, replace_after_check, remove_after_check, write, edit_done, carried_out, new_component}
 use Rattle.edit_rules.specs.Table.{decision_number}
 use Rattle.component.proofs.Opened.{judge_definitions}
@@ -95,7 +96,8 @@ add_order :
     ∷ adds 2 ab (replicate 24 0) []
     ∷ []
     ≡ 14 ∷ 15 ∷ 13 ∷ 16 ∷ 17 ∷ 0 ∷ []
-unfolding judge_definitions bears contains_magic magic_inside magic_at places place_count_below field_length header_bytes field_bytes span_stating sum_for span_bytes
+unfolding judge_definitions bears contains_magic magic_inside magic_at places place_count_below field_length header_bytes field_bytes span_stating sum_for
+    span_bytes
     next_place runs lowest_fitting add_after_check
 add_order = refl
 
@@ -107,7 +109,8 @@ add_full :
     ∷ adds 256 (97 ∷ []) [] (replicate 256 there)
     ∷ []
     ≡ 17 ∷ 13 ∷ 17 ∷ 13 ∷ []
-unfolding judge_definitions bears contains_magic magic_inside magic_at places place_count_below field_length header_bytes field_bytes span_stating sum_for span_bytes
+unfolding judge_definitions bears contains_magic magic_inside magic_at places place_count_below field_length header_bytes field_bytes span_stating sum_for
+    span_bytes
     next_place runs lowest_fitting add_after_check
 add_full = refl
 

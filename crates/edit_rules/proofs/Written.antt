@@ -21,7 +21,8 @@ use Rattle.component.specs.Sums.{total, checksum_zeroed, span_sum, checksum_of, 
 use Rattle.component.specs.Component.{magic, starts_with_magic, len_of, kind_of, offset_of, name_field, component_of, judge}
 use Rattle.component.proofs.Judging.{unformed}
 use Rattle.component.proofs.Summing.{total-append, total_zeroed}
-use Rattle.edit_rules.specs.Edit.{field_length, offset_for, header_bytes, field_bytes, span_stating, sum_for, span_bytes, Run, slot_filled, new_component, BytesAt}
+use Rattle.edit_rules.specs.Edit.{field_length, offset_for, header_bytes, field_bytes, span_stating, sum_for, span_bytes, Run, slot_filled, new_component}
+use Rattle.edit_rules.specs.Edit.{BytesAt}
 
 -- The field holds a byte more than the name, has 16 to 256 bytes, and its size is a multiple of 16.
 
@@ -188,7 +189,8 @@ span_total sum name kind content = omega (arith, header_total (length content) k
         let n = field_length (length name) - length name in
         rw (total-append (field_bytes name) content, total-append name (replicate n 0), total_zeros n) (omega arith)
 
-pub span_sum_lem : (sum : ℕ) (name : List ℕ) (kind : ℕ) (content : List ℕ) → span_sum (span_stating sum name kind content) ≡ by_parts name kind content % 4294967296
+pub span_sum_lem : (sum : ℕ) (name : List ℕ) (kind : ℕ) (content : List ℕ) → span_sum (span_stating sum name kind content)
+    ≡ by_parts name kind content % 4294967296
 unfolding span_sum
 span_sum_lem sum name kind content = ap (λ (x : ℕ). x % 4294967296) (span_total sum name kind content)
 

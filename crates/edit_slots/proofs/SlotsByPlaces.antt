@@ -57,7 +57,8 @@ module _ (r ps : List ℕ) (i : ℕ) where
     runs_here h y = rw (drop-cons ps i 0 h, y)
 
     pub runs_on : i < length ps → run_fits n (run m (get_or ps i 0)) ≡ false
-        → lowest_fitting n (runs_between r a m (drop i ps)) ≡ lowest_fitting n (runs_between r a (next_place r a (span_end r (get_or ps i 0))) (drop (i + 1) ps))
+        → lowest_fitting n (runs_between r a m (drop i ps)) ≡ lowest_fitting n
+        (runs_between r a (next_place r a (span_end r (get_or ps i 0))) (drop (i + 1) ps))
     unfolding runs_between lowest_fitting
     runs_on h y = rw (drop-cons ps i 0 h, y, add-one i)
 

@@ -10,7 +10,8 @@ use Rattle.region.specs.Region.{region_bytes}
 use Rattle.cbfs_types.specs.declared.Region.{Region}
 use Rattle.region.proofs.Regions.{bytes_inside}
 use Rattle.strict_rules.specs.Strict.{component_limit}
-use Rattle.edit_rules.specs.Edit.{Run, offset_for, span_bytes, Decision, write, add_decision, replace_decision, remove_decision, carried_out, add, replace, remove}
+use Rattle.edit_rules.specs.Edit.{Run, offset_for, span_bytes, Decision, write, add_decision, replace_decision, remove_decision, carried_out, add}
+use Rattle.edit_rules.specs.Edit.{replace, remove}
 use Rattle.edit_slots.specs.SlotsByPlaces.{slot_from}
 use Rattle.edit_decide.specs.Choices.{kind_of_name, choice}
 use Rattle.edit_write.specs.EditWrite.{EditResult, edit_result_in, add_in, replace_in, remove_in}

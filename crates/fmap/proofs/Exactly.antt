@@ -206,7 +206,8 @@ module _ (i : List ℕ) (p : ℕ) where
 
   given_at : FirstRowMet (drop 3 (map_rows i p)) (first_failed (map_tests i p (L i)))
   unfolding map_tests map_header_tests
-  given_at = in_parts (map_header_tests i p (L i)) (area_tests_lem ++ all_tests) (take 4 (drop 3 (map_rows i p))) (drop 7 (map_rows i p)) header_renders refl refl
+  given_at = in_parts (map_header_tests i p (L i)) (area_tests_lem ++ all_tests) (take 4 (drop 3 (map_rows i p)))
+      (drop 7 (map_rows i p)) header_renders refl refl
       (λ h.
       let s : size i p ≡ L i = eqb-true _ _ (all_passed (map_header_tests i p (L i)) refl h 2) in
       in_parts area_tests_lem all_tests (each_area_rows i p (nareas i p) 0) (all_areas_rows i p)

@@ -150,8 +150,10 @@ cases =
 
 -- One name for all definitions that the values go through.
 unfoldable opened : ℕ
-unfolding le_bytes le eq_bytes no_two padded signature has_signature signature_at place_count_from signatures_at signatures_from printable_prefix area_name_tests
-    area_name_fits area_name_of area_at areas_at length_fits count_fits area_has_name extent_fits disjoint contains cross fmap_name fmap_area_tests contains_map signature_tests
+unfolding le_bytes le eq_bytes no_two padded signature has_signature signature_at place_count_from signatures_at signatures_from printable_prefix
+    area_name_tests
+    area_name_fits area_name_of area_at areas_at length_fits count_fits area_has_name extent_fits disjoint contains cross fmap_name fmap_area_tests
+    contains_map signature_tests
     map_header_tests area_tests each_area_tests all_areas_tests map_tests fmap_tests map_of map_at fmap_by fmap
 opened = 0
 

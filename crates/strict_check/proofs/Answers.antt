@@ -10,7 +10,8 @@ use lib.Seq.{take_at}
 use Rattle.walk.specs.Walk.{Entry, plain_listing}
 use Rattle.walk.proofs.Members.{given}
 use Rattle.strict_rules.specs.Strict.{component_limit, distinct_names, component_places, Verdict, check_refused, check_accepted, untaken_places, verdict}
-use Rattle.strict_check.specs.StrictCheck.{zero_places, directory_answer, check_summary, stored_places, IsStored, NameDigests, entry_place, entry_digest, store_all, Scanned}
+use Rattle.strict_check.specs.StrictCheck.{zero_places, directory_answer, check_summary, stored_places, IsStored, NameDigests, entry_place, entry_digest}
+use Rattle.strict_check.specs.StrictCheck.{store_all, Scanned}
 use Rattle.strict_check.specs.StrictCheck.{distinct_names_at}
 use Rattle.std.specs.Prelude.{Result, Ok, Err}
 use Rattle.cbfs_types.specs.declared.Refusal.{Refusal}

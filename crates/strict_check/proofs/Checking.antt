@@ -14,7 +14,8 @@ use Rattle.walk.specs.Walk.{Entry, magic_at, next_magic, next_place, plain_listi
 use Rattle.walk.proofs.Searching.{next_none, next_end, next_has_magic, next_above}
 use Rattle.walk.proofs.Steps.{next_place_end}
 use Rattle.strict_rules.specs.Strict.{untaken_places, check_refused, verdict_on, verdict}
-use Rattle.strict_rules.proofs.Untaken.{untaken_from, lowest, first_untaken, plain_from, untaken_from_lem, list_search, list_end, from_end, search_at_place, list_well}
+use Rattle.strict_rules.proofs.Untaken.{untaken_from, lowest, first_untaken, plain_from, untaken_from_lem, list_search, list_end, from_end}
+use Rattle.strict_rules.proofs.Untaken.{search_at_place, list_well}
 use Rattle.strict_rules.proofs.Untaken.{next_place_behind, first_search, first_ill, first_open, first_inside}
 
 -- The lowest of the untaken places decides.

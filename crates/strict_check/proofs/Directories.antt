@@ -27,7 +27,8 @@ pub fill_over : (f : Entry → ℕ) (d : List ℕ) (l : List Entry) → length l
 fill_over f d l h = filled f [] d 0 l refl h
 
 -- One more is stored after those that are.
-pub fill_snoc : (f : Entry → ℕ) (d : List ℕ) (n : ℕ) (l : List Entry) (t : Entry) → store_all f d n (l ++ (t ∷ [])) ≡ set (store_all f d n l) (n + length l) (f t)
+pub fill_snoc : (f : Entry → ℕ) (d : List ℕ) (n : ℕ) (l : List Entry) (t : Entry) → store_all f d n (l ++ (t ∷ [])) ≡ set (store_all f d n l) (n + length l)
+    (f t)
 unfolding store_all
 fill_snoc f d n [] t = rw add-zero
 fill_snoc f d n (x ∷ l) t = fill_snoc f (set d n (f x)) (n + 1) l t ∙ ap (λ (k : ℕ). set (store_all f (set d n (f x)) (n + 1) l) k (f t)) (omega arith)
@@ -49,7 +50,8 @@ shifted_next s d i h =
     let m = map (λ p. s + p) (take i d) in
     let u : set (m ++ drop i d) i (s + get_or d i 0) ≡ m ++ ((s + get_or d i 0) ∷ drop (suc i) d) =
     rw (drop-cons d i 0 h) (set_at m (get_or d i 0) (drop (suc i) d) (s + get_or d i 0) i (long s d i (omega arith))) in
-    u ∙ sym (rw (add-one i, take-suc d i 0 h, map-append (λ p. s + p) (take i d) (get_or d i 0 ∷ [])) (append_assoc m ((s + get_or d i 0) ∷ []) (drop (suc i) d)))
+    u ∙ sym (rw (add-one i, take-suc d i 0 h, map-append (λ p. s + p) (take i d) (get_or d i 0 ∷ []))
+    (append_assoc m ((s + get_or d i 0) ∷ []) (drop (suc i) d)))
 
 -- The directory of a listing, counted from s: its places stored over zeros.
 

@@ -51,7 +51,8 @@ module _ (l : List ℕ) (d : ℕ) where
         none f (inr q) = true≢false (sym (eq-eqb was 255 q) ∙ f)
 
 -- All from i on are marked, where those after it were and it is now.
-pub all_marked : {before after : List ℕ} {b : Bool} (digests : List ℕ) (i n : ℕ) → Marked before after (get_or digests i 0) b → AllMarked before digests (i + 1) n
+pub all_marked : {before after : List ℕ} {b : Bool} (digests : List ℕ) (i n : ℕ) → Marked before after (get_or digests i 0) b → AllMarked before digests
+    (i + 1) n
     → AllMarked after digests i n
 all_marked {after = after} digests i n s h k l m = go (dec_lt i k)
   where

@@ -70,7 +70,8 @@ module _ (asked : ℕ) (l : List ℕ) (k n : ℕ) (b : Bool) where
       go false = refl
 
 -- Where no second test passes, and the first passes only where the second does, the first does not pass either.
-pub any_less : (f g : ℕ → Bool) (ps ds : List ℕ) (n : ℕ) → n ≤ length ps → n ≤ length ds → ((j : ℕ) → j < n → g (get_or ds j 0) ≡ false → f (get_or ps j 0) ≡ false)
+pub any_less : (f g : ℕ → Bool) (ps ds : List ℕ) (n : ℕ) → n ≤ length ps → n ≤ length ds
+    → ((j : ℕ) → j < n → g (get_or ds j 0) ≡ false → f (get_or ps j 0) ≡ false)
     → (d k : ℕ) → k + d ≡ n → any g (take (n - k) (drop k ds)) ≡ false → any f (take (n - k) (drop k ps)) ≡ false
 any_less f g ps ds n l m h zero k e q = any_end f ps k n (omega arith)
 any_less f g ps ds n l m h (suc d) k e q = go (g (get_or ds k 0)) refl (any_less f g ps ds n l m h d (k + 1) (omega arith))
@@ -91,7 +92,8 @@ no_two_tail t x l e = rw e (go (not (any (t x) l)))
     go false = refl
 
 pub distinct_not : (r ps : List ℕ) (i n : ℕ) → i < n → n ≤ length ps
-    → any (has_name r (name_by_numbers r (get_or ps i 0))) (take (n - (i + 1)) (drop (i + 1) ps)) ≡ true → distinct_names_at r (take (n - i) (drop i ps)) ≡ false
+    → any (has_name r (name_by_numbers r (get_or ps i 0))) (take (n - (i + 1)) (drop (i + 1) ps)) ≡ true → distinct_names_at r (take (n - i) (drop i ps))
+    ≡ false
 unfolding no_two
 distinct_not r ps i n h l y = rw (window_cons ps i n h l, y)
 

@@ -87,7 +87,8 @@ lone (x ∷ xs) d t m = go (Memᴰ.cases_cons m) (λ n. lone xs s.1 t n)
     go (inr n) ih = rw (other (bears t.component.name x) refl n) (ih n)
 
 -- And then the first bearer of any name is the only one.
-pub first_only : (l : List Entry) → distinct_names l ≡ true → (name : List ℕ) → first_or_refused (filter (bears name) l) ≡ only_or_refused (filter (bears name) l)
+pub first_only : (l : List Entry) → distinct_names l ≡ true → (name : List ℕ) → first_or_refused (filter (bears name) l) ≡ only_or_refused
+    (filter (bears name) l)
 unfolding first_or_refused only_or_refused
 first_only l d name = go (filter (bears name) l) refl
   where

@@ -13,7 +13,8 @@ use Rattle.bytes_read.specs.Number.{be_bytes}
 use Rattle.bench_image.specs.BenchImage.{larchive, cal, head, slot0, slot192, region, region_a, region500, region_twice, region_summed}
 use Rattle.bytes_read.specs.Bytes.{eq_bytes}
 use Rattle.bytes_read.specs.Lists.{filter, no_two}
-use Rattle.walk.specs.Walk.{Entry, place_count_below, places, magic_at, magic_inside, plain_pick, unless, guarded_pick, or_else, first, step, next_place, follow, steps}
+use Rattle.walk.specs.Walk.{Entry, place_count_below, places, magic_at, magic_inside, plain_pick, unless, guarded_pick, or_else, first, step, next_place}
+use Rattle.walk.specs.Walk.{follow, steps}
 use Rattle.walk.specs.Walk.{listing_from, plain_listing, guarded_listing}
 use Rattle.walk_lookup.specs.Lookup.{bears, only_or_refused, lookup_gives, guarded_lookup}
 use Rattle.strict_rules.specs.Strict.{component_limit, lists_place, is_untaken, untaken_places, Accepted, check_refused, check_accepted, verdict_on, verdict}

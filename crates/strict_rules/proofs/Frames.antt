@@ -87,7 +87,8 @@ module _ (r r' : List ℕ) (a : ℕ) (big : 8 ≤ a) (anew : ℕ → Bool) (fr :
         (λ p m e. same_pick p (listed_place r a pos p m).0 (not-true (anew p) e)))
 
     -- If each new magic is a component's too, every magic is.
-    pub still_every_taken : ((p : ℕ) → Place a p → anew p ≡ true → magic_at r' p ≡ true → (c : Component) × (guarded_pick r' a p ≡ Some c)) → EveryMagicTaken r' a
+    pub still_every_taken : ((p : ℕ) → Place a p → anew p ≡ true → magic_at r' p ≡ true → (c : Component) × (guarded_pick r' a p ≡ Some c))
+        → EveryMagicTaken r' a
     still_every_taken new p pl c = go (anew p) refl
       where
         go : (b : Bool) → anew p ≡ b → (d : Component) × (guarded_pick r' a p ≡ Some d)

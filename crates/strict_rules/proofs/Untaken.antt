@@ -112,7 +112,8 @@ module _ (r : List ℕ) (a : ℕ) (pos : 0 < a) where
 
   -- Up to the next magic nothing is untaken, whatever is listed.
 
-  kept_no_magic : (l : List Entry) (n : ℕ) → n < length r → magic_at r n ≡ false → filter (is_untaken r l) (row r a n) ≡ filter (is_untaken r l) (row r a (n + a))
+  kept_no_magic : (l : List Entry) (n : ℕ) → n < length r → magic_at r n ≡ false → filter (is_untaken r l) (row r a n) ≡ filter (is_untaken r l)
+      (row r a (n + a))
   kept_no_magic l n h y = kept_not (is_untaken r l) n h (untaken_no_magic r l n y)
 
   kept_search : (l : List Entry) (b n : ℕ) → b ≤ length r → next_magic r a n b < b

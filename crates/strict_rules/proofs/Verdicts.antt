@@ -87,7 +87,8 @@ module _ (most : ℕ) (r : List ℕ) (a : ℕ) where
 
   -- Accepted, with the plain listing's places.
   pub accepts : (ps : List ℕ) → (verdict most r a ≡ check_accepted ps)
-      ↔ ((untaken_places r a ≡ []) × (length (plain_listing r a) ≤ most) × (distinct_names (plain_listing r a) ≡ true) × (ps ≡ component_places (plain_listing r a)))
+      ↔ ((untaken_places r a ≡ []) × (length (plain_listing r a) ≤ most) × (distinct_names (plain_listing r a) ≡ true)
+      × (ps ≡ component_places (plain_listing r a)))
   unfolding verdict
   accepts ps = (
     go (by_case most (untaken_places r a) (plain_listing r a)),

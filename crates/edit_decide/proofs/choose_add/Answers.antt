@@ -16,7 +16,8 @@ use Rattle.edit_decide.specs.Choices.{choice}
 use Rattle.edit_rules.proofs.Written.{name_fit, field_most, length_span}
 use Rattle.edit_decide.proofs.Choices.{used_by, run_by, long_not_found, run_some, run_none, add_14, add_15, add_13, add_16, add_17, add_write}
 use Rattle.edit_decide.proofs.choose_add.Goals as goal
-use Rattle.edit_decide.proofs.choose_add.Goals.{After-free_run, After-name_used, After-offset_for-offset, Else-name_used, Else-not-name_fits, Else-ps-ge-COMPONENTS_MAX, Else-span_contains_magic, Start}
+use Rattle.edit_decide.proofs.choose_add.Goals.{After-free_run, After-name_used, After-offset_for-offset, Else-name_used, Else-not-name_fits}
+use Rattle.edit_decide.proofs.choose_add.Goals.{Else-ps-ge-COMPONENTS_MAX, Else-span_contains_magic, Start}
 
 counted : (c : Start) → length c.args.ps.now ≡ length (plain_listing c.args.r.now c.args.align)
 counted c = ap length c.requires ∙ length-map (plain_listing c.args.r.now c.args.align) (λ t. t.place)
@@ -56,7 +57,8 @@ no_run_fits : (c : After-offset_for-offset) → let a = c.args in
     (plain_listing a.r.now a.align))
 no_run_fits c e s =
     let a = c.args in
-    add_17 a.r.now a.align a.name.now a.kind a.content.now s (named (goal.at.After-offset_for-offset c).Else-not-name_fits) (unused (goal.at.After-offset_for-offset c).Else-name_used)
+    add_17 a.r.now a.align a.name.now a.kind a.content.now s (named (goal.at.After-offset_for-offset c).Else-not-name_fits)
+    (unused (goal.at.After-offset_for-offset c).Else-name_used)
     (few (goal.at.After-offset_for-offset c).Else-ps-ge-COMPONENTS_MAX) (clean (goal.at.After-offset_for-offset c).Else-span_contains_magic) e
 
 found : (c : After-free_run) → let a = c.args in
@@ -78,14 +80,17 @@ returns-then-name_used c =
     λ s.
     let a = c.args in
     let borne = sym (taken (goal.at.returns-then-name_used c).After-name_used) ∙ c.if-name_used.true in
-    ap Err c.refusal_by-then-name_used.ensures ∙ add_15 a.r.now a.align a.name.now a.kind a.content.now s (named (goal.at.returns-then-name_used c).Else-not-name_fits) borne
+    ap Err c.refusal_by-then-name_used.ensures ∙ add_15 a.r.now a.align a.name.now a.kind a.content.now s
+    (named (goal.at.returns-then-name_used c).Else-not-name_fits) borne
 
 pub returns-then-ps-ge-COMPONENTS_MAX : goal.returns-then-ps-ge-COMPONENTS_MAX
 returns-then-ps-ge-COMPONENTS_MAX c =
     λ s.
     let a = c.args in
-    let many : component_limit ≤ length (plain_listing a.r.now a.align) = omega (arith, c.if-ps-ge-COMPONENTS_MAX.true, counted (goal.at.returns-then-ps-ge-COMPONENTS_MAX c).Start) in
-    ap Err c.refusal_by-then-ps-ge-COMPONENTS_MAX.ensures ∙ add_13 a.r.now a.align a.name.now a.kind a.content.now s (named (goal.at.returns-then-ps-ge-COMPONENTS_MAX c).Else-not-name_fits) (unused (goal.at.returns-then-ps-ge-COMPONENTS_MAX c).Else-name_used) many
+    let many : component_limit ≤ length (plain_listing a.r.now a.align) = omega
+    (arith, c.if-ps-ge-COMPONENTS_MAX.true, counted (goal.at.returns-then-ps-ge-COMPONENTS_MAX c).Start) in
+    ap Err c.refusal_by-then-ps-ge-COMPONENTS_MAX.ensures ∙ add_13 a.r.now a.align a.name.now a.kind a.content.now s
+    (named (goal.at.returns-then-ps-ge-COMPONENTS_MAX c).Else-not-name_fits) (unused (goal.at.returns-then-ps-ge-COMPONENTS_MAX c).Else-name_used) many
 
 pub span_contains_magic-requires : goal.span_contains_magic-requires
 span_contains_magic-requires c = short (goal.at.span_contains_magic-requires c).Else-not-name_fits
@@ -94,8 +99,10 @@ pub returns-then-span_contains_magic : goal.returns-then-span_contains_magic
 returns-then-span_contains_magic c =
     λ s.
     let a = c.args in
-    ap Err c.refusal_by-then-span_contains_magic.ensures ∙ add_16 a.r.now a.align a.name.now a.kind a.content.now s (named (goal.at.returns-then-span_contains_magic c).Else-not-name_fits)
-    (unused (goal.at.returns-then-span_contains_magic c).Else-name_used) (few (goal.at.returns-then-span_contains_magic c).Else-ps-ge-COMPONENTS_MAX) (sym c.span_contains_magic.ensures ∙ c.if-span_contains_magic.true)
+    ap Err c.refusal_by-then-span_contains_magic.ensures ∙ add_16 a.r.now a.align a.name.now a.kind a.content.now s
+    (named (goal.at.returns-then-span_contains_magic c).Else-not-name_fits)
+    (unused (goal.at.returns-then-span_contains_magic c).Else-name_used) (few (goal.at.returns-then-span_contains_magic c).Else-ps-ge-COMPONENTS_MAX)
+    (sym c.span_contains_magic.ensures ∙ c.if-span_contains_magic.true)
 
 pub overflow_sub-offset : goal.overflow_sub-offset
 overflow_sub-offset c = omega (arith, most (goal.at.overflow_sub-offset c).After-offset_for-offset)
@@ -104,7 +111,15 @@ pub returns-then-offset-content : goal.returns-then-offset-content
 returns-then-offset-content c =
     λ s.
     let a = c.args in
-    ap Err c.refusal_by-then-offset-content.ensures ∙ no_run_fits (goal.at.returns-then-offset-content c).After-offset_for-offset (long_not_found _ (free_runs a.r.now a.align) (omega (arith, spans (goal.at.returns-then-offset-content c).After-offset_for-offset, c.if-offset-content.true, most (goal.at.returns-then-offset-content c).After-offset_for-offset))) s
+    ap Err c.refusal_by-then-offset-content.ensures ∙ no_run_fits (goal.at.returns-then-offset-content c).After-offset_for-offset
+    (long_not_found _ (free_runs a.r.now a.align)
+    (omega (
+      arith,
+      spans (goal.at.returns-then-offset-content c).After-offset_for-offset,
+      c.if-offset-content.true,
+      most
+          (goal.at.returns-then-offset-content c).After-offset_for-offset,
+    ))) s
 
 pub overflow_add-offset : goal.overflow_add-offset
 overflow_add-offset c = omega (arith, most (goal.at.overflow_add-offset c).After-offset_for-offset, c.if-offset-content.false)
@@ -115,10 +130,12 @@ returns-in-Some c =
     let a = c.args in
     let (x, e, z) = run_some a.kind _ _ (sym (found (goal.at.returns-in-Some c).After-free_run) ∙ c.in-Some.is) in
     sym (ap Ok z) ∙ add_write a.r.now a.align a.name.now a.kind a.content.now s (named (goal.at.returns-in-Some c).Else-not-name_fits)
-    (unused (goal.at.returns-in-Some c).Else-name_used) (few (goal.at.returns-in-Some c).Else-ps-ge-COMPONENTS_MAX) (clean (goal.at.returns-in-Some c).Else-span_contains_magic) x e
+    (unused (goal.at.returns-in-Some c).Else-name_used) (few (goal.at.returns-in-Some c).Else-ps-ge-COMPONENTS_MAX)
+    (clean (goal.at.returns-in-Some c).Else-span_contains_magic) x e
 
 pub returns-in-None : goal.returns-in-None
 returns-in-None c =
     λ s.
     let a = c.args in
-    ap Err c.refusal_by-in-None.ensures ∙ no_run_fits (goal.at.returns-in-None c).After-offset_for-offset (run_none a.kind _ (sym (found (goal.at.returns-in-None c).After-free_run) ∙ c.in-None.is)) s
+    ap Err c.refusal_by-in-None.ensures ∙ no_run_fits (goal.at.returns-in-None c).After-offset_for-offset
+    (run_none a.kind _ (sym (found (goal.at.returns-in-None c).After-free_run) ∙ c.in-None.is)) s

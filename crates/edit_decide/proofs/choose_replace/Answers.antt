@@ -51,7 +51,8 @@ pub returns-then-span_contains_magic : goal.returns-then-span_contains_magic
 returns-then-span_contains_magic c =
     λ s k.
     let a = c.args in
-    ap Err c.refusal_by-then-span_contains_magic.ensures ∙ replace_16 s _ a.align a.name.now a.content.now _ (within (goal.at.returns-then-span_contains_magic c).In-Some)
+    ap Err c.refusal_by-then-span_contains_magic.ensures ∙ replace_16 s _ a.align a.name.now a.content.now _
+    (within (goal.at.returns-then-span_contains_magic c).In-Some)
     (sym c.span_contains_magic.ensures ∙ c.if-span_contains_magic.true)
 
 pub overflow_sub-offset : goal.overflow_sub-offset
@@ -61,9 +62,16 @@ pub returns-then-offset-content : goal.returns-then-offset-content
 returns-then-offset-content c =
     λ s k.
     let a = c.args in
-    ap Err c.refusal_by-then-offset-content.ensures ∙ replace_17 s _ a.align a.name.now a.content.now _ (within (goal.at.returns-then-offset-content c).In-Some) (clean (goal.at.returns-then-offset-content c).Else-span_contains_magic)
+    ap Err c.refusal_by-then-offset-content.ensures ∙ replace_17 s _ a.align a.name.now a.content.now _
+    (within (goal.at.returns-then-offset-content c).In-Some) (clean (goal.at.returns-then-offset-content c).Else-span_contains_magic)
     (long_not_fits (length (span_bytes a.name.now c.in-Some.z.kind a.content.now)) _
-    (omega (arith, spans (goal.at.returns-then-offset-content c).After-offset_for-offset, c.if-offset-content.true, most (goal.at.returns-then-offset-content c).After-offset_for-offset)))
+    (omega (
+      arith,
+      spans (goal.at.returns-then-offset-content c).After-offset_for-offset,
+      c.if-offset-content.true,
+      most
+          (goal.at.returns-then-offset-content c).After-offset_for-offset,
+    )))
 
 pub overflow_add-offset : goal.overflow_add-offset
 overflow_add-offset c = omega (arith, most (goal.at.overflow_add-offset c).After-offset_for-offset, c.if-offset-content.false)
@@ -72,7 +80,8 @@ pub returns-then-not-run_fits : goal.returns-then-not-run_fits
 returns-then-not-run_fits c =
     λ s k.
     let a = c.args in
-    ap Err c.refusal_by-then-not-run_fits.ensures ∙ replace_17 s _ a.align a.name.now a.content.now _ (within (goal.at.returns-then-not-run_fits c).In-Some) (clean (goal.at.returns-then-not-run_fits c).Else-span_contains_magic)
+    ap Err c.refusal_by-then-not-run_fits.ensures ∙ replace_17 s _ a.align a.name.now a.content.now _ (within (goal.at.returns-then-not-run_fits c).In-Some)
+    (clean (goal.at.returns-then-not-run_fits c).Else-span_contains_magic)
     (sym (held (goal.at.returns-then-not-run_fits c).After-run_fits) ∙ c.if-not-run_fits.true)
 
 pub returns-in_default : goal.returns-in_default
@@ -85,4 +94,5 @@ pub returns : goal.returns
 returns c =
     λ s k.
     let a = c.args in
-    replace_write s _ a.align a.name.now a.content.now _ (within (goal.at.returns c).In-Some) (clean (goal.at.returns c).Else-span_contains_magic) (sym (held (goal.at.returns c).After-run_fits) ∙ c.if-not-run_fits.false)
+    replace_write s _ a.align a.name.now a.content.now _ (within (goal.at.returns c).In-Some) (clean (goal.at.returns c).Else-span_contains_magic)
+    (sym (held (goal.at.returns c).After-run_fits) ∙ c.if-not-run_fits.false)

@@ -23,7 +23,9 @@ abbrev kind : After-check_into → ℕ
 kind c = let a = c.args in kind_for a.edit (region (goal.at.After-check_into c).After-check_into) a.region.align a.name.now a.kind
 
 whole : (c : After-check_into) → let a = c.args in
-    choice a.region.start (kind (goal.at.After-check_into c).After-check_into) (after_check (verdict component_limit (region (goal.at.After-check_into c).After-check_into) a.region.align) (own (goal.at.After-check_into c).After-check_into))
+    choice a.region.start (kind (goal.at.After-check_into c).After-check_into)
+    (after_check (verdict component_limit (region (goal.at.After-check_into c).After-check_into) a.region.align)
+    (own (goal.at.After-check_into c).After-check_into))
     ≡ decided a.edit a.image.now a.region a.name.now a.kind a.content.now
 whole c = let a = c.args in decided_so a.edit a.image.now a.region a.name.now a.kind a.content.now
 
@@ -38,14 +40,16 @@ pub returns-in_err-n : goal.returns-in_err-n
 returns-in_err-n c =
     let a = c.args in
     let at = (goal.at.returns-in_err-n c).After-check_into in
-    let f = checked_refused (region at) a.region.align a.region.start (kind at) (own at) c.check_into.result c.check_into.ensures.value _ c.in_err-n.was ∙ whole at in
+    let f = checked_refused (region at) a.region.align a.region.start (kind at) (own at) c.check_into.result c.check_into.ensures.value _ c.in_err-n.was
+    ∙ whole at in
     search (rules, f)
 
 pub slice_bounds-choose-end : goal.slice_bounds-choose-end
 slice_bounds-choose-end c =
     let a = c.args in
     let at = (goal.at.slice_bounds-choose-end c).After-check_into in
-    let fits = checked_fits (region at) a.region.align a.region.start (kind at) (own at) c.check_into.result c.check_into.ensures.value c.in_ok-n.n c.in_ok-n.was
+    let fits = checked_fits (region at) a.region.align a.region.start (kind at) (own at) c.check_into.result c.check_into.ensures.value c.in_ok-n.n
+    c.in_ok-n.was
     (replicate 1024 0) c.check_into.ensures.stored in
     omega (arith, fits, length-take c.in_ok-n.n (after at))
 
@@ -67,6 +71,7 @@ pub returns : goal.returns
 returns c =
     let a = c.args in
     let at = (goal.at.returns c).After-check_into in
-    let f = checked_fine (region at) a.region.align a.region.start (kind at) (own at) c.check_into.result c.check_into.ensures.value c.in_ok-n.n c.in_ok-n.was in
+    let f = checked_fine (region at) a.region.align a.region.start (kind at) (own at) c.check_into.result c.check_into.ensures.value c.in_ok-n.n c.in_ok-n.was
+    in
     let on : List ℕ → Choice = λ x. choice_of a.edit a.region.start x a.region.align a.name.now a.kind a.content.now in
     c.choose.ensures a.region.start ∙ ap on c.bytes-r.ensures.result_value ∙ sym (ap (choice a.region.start (kind at)) f) ∙ whole at

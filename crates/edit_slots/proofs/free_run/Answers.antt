@@ -18,14 +18,16 @@ loop-p-init c = refl
 pub returns-then-run_fits-clause-value : goal.returns-then-run_fits-clause-value
 returns-then-run_fits-clause-value c =
     let a = c.args in
-    let here = runs_here a.r.now a.ps.now c.loop-p.p-index a.align a.n c.loop-p.from (inside (goal.at.returns-then-run_fits-clause-value c).After-run_fits) (sym c.run_fits.ensures ∙ c.if-run_fits.true) in
+    let here = runs_here a.r.now a.ps.now c.loop-p.p-index a.align a.n c.loop-p.from (inside (goal.at.returns-then-run_fits-clause-value c).After-run_fits)
+    (sym c.run_fits.ensures ∙ c.if-run_fits.true) in
     sym (ap (free_run_answer a.kind) (c.loop-p.invariant ∙ here))
 
 pub loop-p-preserved : goal.loop-p-preserved
 loop-p-preserved c =
     let a = c.args in
     let from = c.next_place-from.ensures.value ∙ ap (next_place a.r.now a.align) c.span_end.ensures in
-    c.loop-p.invariant ∙ runs_on a.r.now a.ps.now c.loop-p.p-index a.align a.n c.loop-p.from (inside (goal.at.loop-p-preserved c).After-run_fits) (sym c.run_fits.ensures ∙ c.if-run_fits.false)
+    c.loop-p.invariant ∙ runs_on a.r.now a.ps.now c.loop-p.p-index a.align a.n c.loop-p.from (inside (goal.at.loop-p-preserved c).After-run_fits)
+    (sym c.run_fits.ensures ∙ c.if-run_fits.false)
     ∙ ap (λ (m : ℕ). lowest_fitting a.n (runs_between a.r.now a.align m (drop (c.loop-p.p-index + 1) a.ps.now))) (sym from)
 
 pub returns-clause-value : goal.returns-clause-value

@@ -26,14 +26,16 @@ borne c =
 pub returns-then-is_named-clause-value : goal.returns-then-is_named-clause-value
 returns-then-is_named-clause-value c =
     let a = c.args in
-    let here = slot_here a.r.now a.ps.now c.loop-i.i a.name.now (inside (goal.at.returns-then-is_named-clause-value c).After-rest-s) (sym (borne (goal.at.returns-then-is_named-clause-value c).After-is_named) ∙ c.if-is_named.true) in
+    let here = slot_here a.r.now a.ps.now c.loop-i.i a.name.now (inside (goal.at.returns-then-is_named-clause-value c).After-rest-s)
+    (sym (borne (goal.at.returns-then-is_named-clause-value c).After-is_named) ∙ c.if-is_named.true) in
     let kind = c.be32.ensures.value ∙ ap (λ (s : List ℕ). be 4 s 12) c.rest-s.ensures.result_value in
     rw (kind, c.next_start.ensures) (sym (c.loop-i.invariant ∙ here))
 
 pub loop-i-preserved : goal.loop-i-preserved
 loop-i-preserved c =
     let a = c.args in
-    c.loop-i.invariant ∙ slot_on a.r.now a.ps.now c.loop-i.i a.name.now (inside (goal.at.loop-i-preserved c).After-rest-s) (sym (borne (goal.at.loop-i-preserved c).After-is_named) ∙ c.if-is_named.false)
+    c.loop-i.invariant ∙ slot_on a.r.now a.ps.now c.loop-i.i a.name.now (inside (goal.at.loop-i-preserved c).After-rest-s)
+    (sym (borne (goal.at.loop-i-preserved c).After-is_named) ∙ c.if-is_named.false)
 
 pub returns-clause-value : goal.returns-clause-value
 returns-clause-value c =

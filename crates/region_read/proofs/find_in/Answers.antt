@@ -17,7 +17,8 @@ region c = region_bytes c.args.image.now c.args.region
 abbrev looked : After-find → LookupResult
 looked c = lookup_of c.args.guarded (region (goal.at.After-find c).After-find) c.args.region.align c.args.name.now
 
-said : (c : After-find) → bearer_answer (region (goal.at.After-find c).After-find) c.args.region.align (looked (goal.at.After-find c).After-find) ≡ c.find.result
+said : (c : After-find) → bearer_answer (region (goal.at.After-find c).After-find) c.args.region.align (looked (goal.at.After-find c).After-find)
+    ≡ c.find.result
 said c = sym (rw c.bytes.ensures.result_value at c.find.ensures.value)
 
 pub shift-requires : goal.shift-requires
@@ -25,13 +26,15 @@ shift-requires c =
     let a = c.args in
     let b =
     found_sums a.image.now a.region a.guarded (looked (goal.at.shift-requires c).After-find)
-    (λ e q. (lookup_member a.guarded (region (goal.at.shift-requires c).After-find) a.region.align a.name.now e q).0) _ (said (goal.at.shift-requires c).After-find ∙ c.in_ok-t.was) in
+    (λ e q. (lookup_member a.guarded (region (goal.at.shift-requires c).After-find) a.region.align a.name.now e q).0) _
+    (said (goal.at.shift-requires c).After-find ∙ c.in_ok-t.was) in
     (omega (arith, b, c.well_formed), omega (arith, b, c.well_formed))
 
 pub returns-clause-value : goal.returns-clause-value
 returns-clause-value c =
     let a = c.args in
-    (found_at a.image.now a.region (looked (goal.at.returns-clause-value c).After-find) _ (said (goal.at.returns-clause-value c).After-find ∙ c.in_ok-t.was) c.shift.ensures)
+    (found_at a.image.now a.region (looked (goal.at.returns-clause-value c).After-find) _
+    (said (goal.at.returns-clause-value c).After-find ∙ c.in_ok-t.was) c.shift.ensures)
 
 pub returns-in_err-t-clause-value : goal.returns-in_err-t-clause-value
 returns-in_err-t-clause-value c =

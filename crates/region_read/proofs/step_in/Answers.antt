@@ -26,10 +26,12 @@ region c = region_bytes c.args.image.now c.args.region
 
 abbrev stepping : After-walk_step → Option Entry
 stepping c =
-    step (pick_of c.args.guarded (region (goal.at.After-walk_step c).After-walk_step) c.args.region.align) (region (goal.at.After-walk_step c).After-walk_step) c.args.region.align
+    step (pick_of c.args.guarded (region (goal.at.After-walk_step c).After-walk_step) c.args.region.align)
+    (region (goal.at.After-walk_step c).After-walk_step) c.args.region.align
     (c.args.from - c.args.region.start)
 
-said : (c : After-walk_step) → step_answer (region (goal.at.After-walk_step c).After-walk_step) c.args.region.align (stepping (goal.at.After-walk_step c).After-walk_step) ≡ c.walk_step.result
+said : (c : After-walk_step) → step_answer (region (goal.at.After-walk_step c).After-walk_step) c.args.region.align
+    (stepping (goal.at.After-walk_step c).After-walk_step) ≡ c.walk_step.result
 said c = sym (rw c.bytes.ensures.result_value at c.walk_step.ensures.value)
 
 pub shift-requires : goal.shift-requires
@@ -41,13 +43,17 @@ shift-requires c =
 pub returns-in-Some-clause-value : goal.returns-in-Some-clause-value
 returns-in-Some-clause-value c =
     let a = c.args in
-    step_fit a.image.now a.region (pick_of a.guarded (region (goal.at.returns-in-Some-clause-value c).After-walk_step) a.region.align) a.from c.is_step_start.ensures
+    step_fit a.image.now a.region (pick_of a.guarded (region (goal.at.returns-in-Some-clause-value c).After-walk_step) a.region.align) a.from
+    c.is_step_start.ensures
     c.if-not-is_step_start.false
-    (step_answer_took a.image.now a.region (stepping (goal.at.returns-in-Some-clause-value c).After-walk_step) _ (said (goal.at.returns-in-Some-clause-value c).After-walk_step ∙ c.in-Some.is) c.shift.ensures)
+    (step_answer_took a.image.now a.region (stepping (goal.at.returns-in-Some-clause-value c).After-walk_step) _
+    (said (goal.at.returns-in-Some-clause-value c).After-walk_step ∙ c.in-Some.is) c.shift.ensures)
 
 pub returns-in-None-clause-value : goal.returns-in-None-clause-value
 returns-in-None-clause-value c =
     let a = c.args in
-    step_fit a.image.now a.region (pick_of a.guarded (region (goal.at.returns-in-None-clause-value c).After-walk_step) a.region.align) a.from c.is_step_start.ensures
+    step_fit a.image.now a.region (pick_of a.guarded (region (goal.at.returns-in-None-clause-value c).After-walk_step) a.region.align) a.from
+    c.is_step_start.ensures
     c.if-not-is_step_start.false
-    (step_answer_none a.image.now a.region (stepping (goal.at.returns-in-None-clause-value c).After-walk_step) (said (goal.at.returns-in-None-clause-value c).After-walk_step ∙ c.in-None.is))
+    (step_answer_none a.image.now a.region (stepping (goal.at.returns-in-None-clause-value c).After-walk_step)
+    (said (goal.at.returns-in-None-clause-value c).After-walk_step ∙ c.in-None.is))

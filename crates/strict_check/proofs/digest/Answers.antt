@@ -40,7 +40,8 @@ returns c =
           let word = w.hash_step-h.ensures ∙ ap (hash_step h) (w.le64.ensures.value ∙ word_at s 8 0 cut.0 (omega arith)) in
           let short = c.in_default.ensures.cases in
           rw (w.h-is, w.rest-is) (c.loop-w.invariant ∙ digest_front s h (w.in-Some-split_first_chunk.ensures.variant.0 refl) ∙ on (sym word) (sym cut.1)
-          ∙ digest_end w.in-Some-split_first_chunk.after.now (length w.in-Some-split_first_chunk.after.now) 0 w.hash_step-h.result (omega (arith, short, cut.2)))
+          ∙ digest_end w.in-Some-split_first_chunk.after.now (length w.in-Some-split_first_chunk.after.now) 0 w.hash_step-h.result
+          (omega (arith, short, cut.2)))
       | in_default-split_first_chunk w ↦
           rw (w.h-is, w.rest-is) (c.loop-w.invariant ∙ digest_end s (length s) 0 h w.in_default-split_first_chunk.ensures.cases)
     ] in

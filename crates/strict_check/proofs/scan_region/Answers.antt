@@ -24,7 +24,8 @@ inside c = c.loop-p-test.true
 -- what the judge says of the part from p on
 said : (c : After-judge_numbers)
     → judged (judge_skipping_sum (drop c.loop-p.p c.args.r.now)) ≡ c.judge_numbers.result
-said c = unsummed_said c.args.r.now c.loop-p.p (c.loop-p.invariant.checked.found (inside (goal.at.After-judge_numbers c).After-judge_numbers)).2 c.judge_numbers.ensures.value
+said c = unsummed_said c.args.r.now c.loop-p.p (c.loop-p.invariant.checked.found (inside (goal.at.After-judge_numbers c).After-judge_numbers)).2
+    c.judge_numbers.ensures.value
 
 header : (c : In-Some) →
     judged (judge_skipping_sum (drop c.loop-p.p c.args.r.now)) ≡ Some c.in-Some.h
@@ -48,7 +49,8 @@ judged-by : (c : After-checksum_matches) →
     (b : Bool) → c.checksum_matches.result ≡ b
     → judged (judge (drop c.loop-p.p c.args.r.now)) ≡ cond b (Some c.in-Some.h) None
 judged-by c b e =
-    summed_said c.args.r.now c.loop-p.p _ b (c.loop-p.invariant.checked.found (inside (goal.at.After-checksum_matches c).After-judge_numbers)).2 (header (goal.at.After-checksum_matches c).In-Some) (sym c.checksum_matches.ensures.value ∙ e)
+    summed_said c.args.r.now c.loop-p.p _ b (c.loop-p.invariant.checked.found (inside (goal.at.After-checksum_matches c).After-judge_numbers)).2
+    (header (goal.at.After-checksum_matches c).In-Some) (sym c.checksum_matches.ensures.value ∙ e)
 
 well : (c : Else-not-checksum_matches) →
     judged (judge (drop c.loop-p.p c.args.r.now)) ≡ Some c.in-Some.h
@@ -74,13 +76,15 @@ overflow_add-n c =
 pub loop-p-smaller : goal.loop-p-smaller
 loop-p-smaller c =
     let a = c.args in
-    let later = scan_later c.loop-p.invariant (inside (goal.at.loop-p-smaller c).After-judge_numbers) (well (goal.at.loop-p-smaller c).Else-not-checksum_matches) c.next_place.result c.next_magic-p-in-loop-p.result in
+    let later = scan_later c.loop-p.invariant (inside (goal.at.loop-p-smaller c).After-judge_numbers)
+    (well (goal.at.loop-p-smaller c).Else-not-checksum_matches) c.next_place.result c.next_magic-p-in-loop-p.result in
     omega (arith, inside (goal.at.loop-p-smaller c).After-judge_numbers, later c.next_place.ensures.value c.next_magic-p-in-loop-p.ensures.value)
 
 pub loop-p-preserved : goal.loop-p-preserved
 loop-p-preserved c =
     let a = c.args in
-    let on = scan_on c.loop-p.invariant (inside (goal.at.loop-p-preserved c).After-judge_numbers) (well (goal.at.loop-p-preserved c).Else-not-checksum_matches) c.next_magic_after-q.result c.next_place.result c.next_magic-p-in-loop-p.result _ _ in
+    let on = scan_on c.loop-p.invariant (inside (goal.at.loop-p-preserved c).After-judge_numbers)
+    (well (goal.at.loop-p-preserved c).Else-not-checksum_matches) c.next_magic_after-q.result c.next_place.result c.next_magic-p-in-loop-p.result _ _ in
     let name = c.part.ensures.result_value ∙ ap (λ (x : List ℕ). part_of x 24 c.in-Some.h.namelen) c.rest.ensures.result_value in
     let digest = c.store_digest.ensures ∙ ap (λ (x : List ℕ). set c.loop-p.digests c.loop-p.n (digest_of x)) name in
     on c.next_magic_after-q.ensures.value c.if-q-e.false c.next_place.ensures.value c.next_magic-p-in-loop-p.ensures.value c.store_at.ensures digest
@@ -88,7 +92,11 @@ loop-p-preserved c =
 pub returns-in_default : goal.returns-in_default
 returns-in_default c =
     let at = goal.at.returns-in_default c in
-    untaken_at (scan_ill c.loop-p.invariant (inside at.After-judge_numbers) (ill_said _ c.loop-p.p (said at.After-judge_numbers ∙ c.in_default.is)), inside at.After-judge_numbers)
+    untaken_at (
+      scan_ill c.loop-p.invariant (inside at.After-judge_numbers) (ill_said _ c.loop-p.p (said at.After-judge_numbers ∙ c.in_default.is)),
+      inside
+          at.After-judge_numbers,
+    )
 
 pub returns : goal.returns
 returns c = none_untaken_lem (scan_end c.loop-p.invariant c.loop-p-test.false)

@@ -19,4 +19,5 @@ returns-else-digest_among c =
     let a = c.args in
     let t = a.self.now in
     let none = sym c.digest_among.ensures ∙ c.if-digest_among.false in
-    c.if-digest_among.false ∙ sym (none_shared t.r.now t.places.now t.digests.now (name_by_numbers t.r.now a.p) a.from t.count a.asked c.requires.0 t.known c.requires.1 none)
+    c.if-digest_among.false ∙ sym
+    (none_shared t.r.now t.places.now t.digests.now (name_by_numbers t.r.now a.p) a.from t.count a.asked c.requires.0 t.known c.requires.1 none)

@@ -17,7 +17,8 @@ returns-else-mark_digest-clause-value c =
     let unmarked = c.mark_digest.ensures.unmarked c.if-mark_digest.false in
     let none = none_marked a.marks.now t.digests.now asked t.count t.known.taken unmarked (t.count - (a.i + 1)) (a.i + 1) (omega arith) noted in
     let name = name_by_numbers t.r.now (get_or t.places.now a.i 0) in
-    c.if-mark_digest.false ∙ sym (none_shared t.r.now t.places.now t.digests.now name (a.i + 1) t.count asked (omega arith) t.known (t.known.each a.i less) none)
+    c.if-mark_digest.false ∙ sym
+    (none_shared t.r.now t.places.now t.digests.now name (a.i + 1) t.count asked (omega arith) t.known (t.known.each a.i less) none)
 
 pub returns-then-mark_digest-clause-marked : goal.returns-then-mark_digest-clause-marked
 returns-then-mark_digest-clause-marked c =
