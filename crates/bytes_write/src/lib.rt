@@ -13,6 +13,17 @@ pub fn has_room(dst: &[u8], at: usize, n: usize) -> bool
     n <= dst.len() && at <= dst.len() - n
 }
 
+// Overwrites the whole of dst with the bytes of src, which is as long. The library's `copy_from_slice` would call `memmove`, which no other call needs, and a
+// caller in C would have to bring it.
+fn copy_all(dst: &mut [u8], src: &[u8])
+    requires { length dst.old ≡ length src.now }
+    ensures { dst.new ≡ src.now }
+{
+    for (i, b) in src.iter().enumerate() {
+        dst[i] = *b;
+    }
+}
+
 // Overwrites the bytes of dst from `at` on with those of src, and says whether they fit.
 pub fn copy(dst: &mut [u8], at: usize, src: &[u8]) -> bool
     ensures value { result ≡ fits dst.old at (length src.now) }
@@ -22,7 +33,7 @@ pub fn copy(dst: &mut [u8], at: usize, src: &[u8]) -> bool
     if !has_room(dst, at, src.len()) {
         return false;
     }
-    dst[at..at + src.len()].copy_from_slice(src);
+    copy_all(&mut dst[at..at + src.len()], src);
     true
 }
 
