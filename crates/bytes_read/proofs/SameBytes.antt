@@ -1,10 +1,10 @@
 -- Laws of eq_bytes, for a loop over the indices and for whoever compares.
-use Prim.Native.Nat.{ℕ, suc, ◌-◌, ◌≤◌, ◌<◌}
+use Prim.Native.Nat.{ℕ, zero, suc, ◌-◌, ◌≤◌, ◌<◌}
 use native.Mathlib.Omega.{arith}
 use mathlib.Core.Path.{◌≡◌, refl, sym, ap, ◌∙◌}
 use mathlib.Core.Bool.{Bool, true, false, cond, ◌&&◌, true≢false, false≢true}
 use mathlib.Core.List.{List, [], ◌∷◌, reverse}
-use lib.ListN.{length, drop}
+use lib.ListN.{length, take, drop}
 use lib.Dec.{eqb}
 use borrow.Author.Tests.{eq-eqb, eqb-true}
 use Rattle.std.specs.Bool.{Decides}
@@ -61,6 +61,28 @@ eq_sym u v e = go (eq_bytes v u) refl
     go false q = refl
     go true q = absurd (true≢false (sym (eq_refl u) ∙ rw (eq_true v u q) at e))
 
+-- In the equation too.
+pub eq_swap : (u v : List ℕ) → eq_bytes u v ≡ eq_bytes v u
+eq_swap u v = go (eq_bytes u v) refl
+  where
+    go : (b : Bool) → eq_bytes u v ≡ b → eq_bytes u v ≡ eq_bytes v u
+    go true q = rw (eq_true u v q) refl
+    go false q = q ∙ sym (eq_sym u v q)
+
+-- What comes first decides, and else what is behind it.
+pub eq_split : (n : ℕ) (a b : List ℕ) → eq_bytes a b ≡ cond (eq_bytes (take n a) (take n b)) (eq_bytes (drop n a) (drop n b)) false
+unfolding eq_bytes
+eq_split zero a b = refl
+eq_split (suc n) [] [] = refl
+eq_split (suc n) [] (y ∷ b) = refl
+eq_split (suc n) (x ∷ a) [] = refl
+eq_split (suc n) (x ∷ a) (y ∷ b) = go (eqb x y) (eq_split n a b)
+  where
+    go : (t : Bool) → eq_bytes a b ≡ cond (eq_bytes (take n a) (take n b)) (eq_bytes (drop n a) (drop n b)) false
+        → cond t (eq_bytes a b) false ≡ cond (cond t (eq_bytes (take n a) (take n b)) false) (eq_bytes (drop n a) (drop n b)) false
+    go true ih = ih
+    go false ih = refl
+
 -- The library's test of two slices is this one.
 pub eq_pointwise : (a b : List ℕ) → pointwise eqb a b ≡ eq_bytes a b
 unfolding eq_bytes
@@ -72,6 +94,17 @@ eq_pointwise (x ∷ a) (y ∷ b) = go (eqb x y) (eq_pointwise a b)
     go : (t : Bool) → pointwise eqb a b ≡ eq_bytes a b → (t && pointwise eqb a b) ≡ cond t (eq_bytes a b) false
     go true ih = ih
     go false ih = refl
+
+-- The first n bytes x and y of the two, as the library compares them: where they differ, so do the two, and else what is behind them decides.
+module _ (n : ℕ) (a b : List ℕ) {x y : List ℕ} (e : x ≡ take n a) (f : y ≡ take n b) where
+  fronts : {t : Bool} → pointwise eqb x y ≡ t → eq_bytes a b ≡ cond t (eq_bytes (drop n a) (drop n b)) false
+  fronts q = eq_split n a b ∙ ap (λ t. cond t (eq_bytes (drop n a) (drop n b)) false) (sym (eq_pointwise (take n a) (take n b)) ∙ rw (e, f) at q)
+
+  pub front_apart : pointwise eqb x y ≡ false → eq_bytes a b ≡ false
+  front_apart q = fronts q
+
+  pub front_same : {p q : List ℕ} → p ≡ drop n a → q ≡ drop n b → pointwise eqb x y ≡ true → eq_bytes p q ≡ eq_bytes a b
+  front_same g h q = rw (g, h) (sym (fronts q))
 
 -- So is a comparison from the last byte on.
 pub eq_reverse : (a b : List ℕ) (r : Bool) → Decides r (reverse a ≡ reverse b) → r ≡ eq_bytes a b

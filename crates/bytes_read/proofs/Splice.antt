@@ -57,6 +57,14 @@ part_got s at n (Some x) none h e = go (dec_lt (length s) (at + n))
         rw z at here ∙ part_out s at n past
     go (no g) = here ∙ part_in s at n (omega arith)
 
+-- what `get` of the bytes from at up to at + n gives
+pub part_ranged : (s : List ℕ) (at n : ℕ) (r : Option (Bor (List ℕ))) (none : Bor (List ℕ)) → IsGetRangeResult s at (at + n) r → none.now ≡ []
+    → (unwrap_or r none).now ≡ part_of s at n
+part_ranged s at n None none h e = e ∙ part_out s at n (omega (arith, h.0))
+part_ranged s at n (Some x) none h e =
+    let m : at + n - at ≡ n = omega arith in
+    rw m at h.0.2 ∙ part_in s at n h.0.1
+
 pub splice-length : (d : List ℕ) (at : ℕ) (ys : List ℕ) → at + length ys ≤ length d → length (splice d at ys) ≡ length d
 unfolding splice
 splice-length d at ys h = simp (length-append, length-drop, length-take-le at d (omega arith)) (omega arith)

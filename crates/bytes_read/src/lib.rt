@@ -7,6 +7,8 @@ ghost use Rattle.bytes_read.specs.Number.{be, le};
 ghost use Rattle.bytes_read.specs.Bytes.{part_of, eq_bytes};
 ghost use Rattle.bytes_read.specs.Printable.{printable_prefix};
 
+use std::array;
+
 // The lesser of two numbers.
 pub fn smaller(a: usize, b: usize) -> usize
     ensures { result ≡ min a b }
@@ -22,7 +24,8 @@ pub fn byte(s: &[u8], at: usize) -> u8
     s.get(at).copied().unwrap_or(0)
 }
 
-// The N bytes at `at`. Where all of them stand there the compiler makes one load of it.
+// The N bytes at `at`. Where all of them stand there the compiler makes one load of it; else they are read one by one, into no memory of their own, so that a
+// number that nobody asks for costs nothing.
 fn bytes<const N: usize>(s: &[u8], at: usize) -> [u8; N]
     ensures { (k : ℕ) → k < N → get_or result k 0 ≡ get_or s.now (at + k) 0 }
 {
@@ -30,9 +33,7 @@ fn bytes<const N: usize>(s: &[u8], at: usize) -> [u8; N]
     if let Some(all) = from.first_chunk() {
         return *all;
     }
-    let mut padded = [0; N];
-    padded[..from.len()].copy_from_slice(from);
-    padded
+    array::from_fn(|k| byte(from, k))
 }
 
 // The little-endian 16-bit number at `at`. One public name for each width and order, as docs/FUNCTIONS.md has them; what they share is `bytes`.
@@ -100,12 +101,28 @@ pub fn equal(a: &[u8], b: &[u8]) -> bool
     a.len() == b.len() && a.iter().rev().zip(b.iter().rev()).all(|(x, y)| x == y)
 }
 
-// The same, for bytes that are long and agree for the most part: as the library compares them, many at a time, the last eight first.
+// The same, for bytes that are long and agree for the most part. Eight are compared at a time, as one number, the last eight first. The library's `==` of two
+// slices compares more at a time, but by a call, which names that differ in their first bytes do not repay.
 pub fn equal_by_words(a: &[u8], b: &[u8]) -> bool
     ensures value { result ≡ eq_bytes a.now b.now }
     ensures kept { (a.exit.now ≡ a.entry.now) × (b.exit.now ≡ b.entry.now) }
 {
-    a.last_chunk::<8>() == b.last_chunk::<8>() && a == b
+    if a.len() != b.len() || a.last_chunk::<8>() != b.last_chunk::<8>() {
+        return false;
+    }
+    let mut left = a;
+    let mut right = b;
+    while let Some((x, after)) = left.split_first_chunk::<8>() {
+        let Some((y, behind)) = right.split_first_chunk::<8>() else {
+            return false;
+        };
+        if x != y {
+            return false;
+        }
+        left = after;
+        right = behind;
+    }
+    equal(left, right)
 }
 
 // How many bytes of 0x21 to 0x7E the bytes begin with, counted up to `most`.

@@ -208,7 +208,8 @@ pub fn is_named(s: &[u8], name: &[u8]) -> bool
     if bytes_read::byte(s, HEADER_LEN + asked) != 0 {
         return false;
     }
-    if !bytes_read::equal_by_words(bytes_read::part(s, HEADER_LEN, asked), name) {
+    let field = s.get(HEADER_LEN..HEADER_LEN + asked).unwrap_or(&[]);
+    if !bytes_read::equal_by_words(field, name) {
         return false;
     }
     match judge_numbers(s) {

@@ -1,8 +1,9 @@
 use Prim.Native.Nat.{ℕ}
-use mathlib.Core.Path.{◌≡◌, sym, ap, ◌∙◌}
+use mathlib.Core.Path.{◌≡◌, refl, sym, ap, ◌∙◌}
 use mathlib.Core.List.{List}
 use lib.ListN.{length}
 use Rattle.bytes_read.specs.Bytes.{part_of, eq_bytes}
+use Rattle.bytes_read.proofs.Splice.{part_ranged}
 use Rattle.component.proofs.Bearing.{too_long, other_field, longer_name, ill_named, as_long}
 use Rattle.component.proofs.is_named.Goals as goal
 use Rattle.component.proofs.is_named.Goals.{After-equal_by_words}
@@ -18,7 +19,10 @@ returns-then-byte-ne0-clause-value c =
 -- the comparison of the field with the name
 compared : (c : After-equal_by_words) → let a = c.args in
     c.equal_by_words.result ≡ eq_bytes (part_of a.s.now 24 (length a.name.now)) a.name.now
-compared c = let a = c.args in c.equal_by_words.ensures.value ∙ ap (λ (x : List ℕ). eq_bytes x a.name.now) c.part.ensures.result_value
+compared c =
+    let a = c.args in
+    let got = part_ranged a.s.now 24 (length a.name.now) _ _ c.get.ensures.lookup refl in
+    c.equal_by_words.ensures.value ∙ ap (λ (x : List ℕ). eq_bytes x a.name.now) (rw c.unwrap_or-field.ensures got)
 
 pub returns-then-not-equal_by_words-clause-value : goal.returns-then-not-equal_by_words-clause-value
 returns-then-not-equal_by_words-clause-value c =
