@@ -2,35 +2,25 @@
 use Prim.Native.Nat.{ℕ, zero, suc, ◌+◌, ◌-◌, ◌*◌, ◌≤◌, ◌<◌}
 use native.Mathlib.Omega.{arith}
 use native.Mathlib.Decide.{dec_le}
-use mathlib.Core.Path.{◌≡◌, refl, sym, ap, ◌∙◌}
+use mathlib.Core.Path.{◌≡◌, refl, sym, ◌∙◌}
 use mathlib.Core.Logic.{◌⊎◌, inl, inr}
-use mathlib.Core.Bool.{Bool, true, false, cond, ◌&&◌, true≢false}
+use mathlib.Core.Bool.{Bool, true, false, true≢false}
 use mathlib.Core.List.Memᴰ
 use mathlib.Core.List.{List, [], ◌∷◌, Memᴰ}
 use lib.ListN.{length, take, drop, length-take, length-drop}
+use lib.Seq.{take-take}
 use lib.Dec.{eqb}
-use Rattle.std.proofs.Common.{Option, Some, None, MatchOption}
 use Rattle.std.specs.Cmp.Lexicographic.{pointwise}
-use Rattle.bytes_read.specs.Bytes.{eq_bytes}
-use Rattle.bytes_read.proofs.SameBytes.{eq_length}
+use Rattle.bytes_read.proofs.SameBytes.{eq_length, eq_pointwise, eq_swap}
 use Rattle.fmap_signature.specs.Signatures.{signature, has_signature, signature_at, place_count_from, signatures_at, signatures_from, first_or}
 
--- Two runs of bytes compared, as the library does it.
-same_bytes : (xs ys : List ℕ) → pointwise eqb xs ys ≡ eq_bytes xs ys
-unfolding eq_bytes
-same_bytes [] [] = refl
-same_bytes [] (y ∷ ys) = refl
-same_bytes (x ∷ xs) [] = refl
-same_bytes (x ∷ xs) (y ∷ ys) = go (eqb x y) (same_bytes xs ys)
-  where
-    go : (b : Bool) → pointwise eqb xs ys ≡ eq_bytes xs ys → b && pointwise eqb xs ys ≡ cond b (eq_bytes xs ys) false
-    go true e = e
-    go false e = refl
-
 -- What is answered of the eight bytes from p on.
-pub signature_eight : (s : List ℕ) (p : ℕ) {b : Bool} → b ≡ pointwise eqb (take (p + 8 - p) (drop p s)) signature → b ≡ signature_at s p
+pub signature_eight : (s : List ℕ) (p : ℕ) {b : Bool} → b ≡ pointwise eqb signature (take 8 (take (p + 8 - p) (drop p s))) → b ≡ signature_at s p
 unfolding signature_at has_signature
-signature_eight s p e = let n : p + 8 - p ≡ 8 = omega arith in rw n at (e ∙ same_bytes _ signature)
+signature_eight s p e =
+    let n : p + 8 - p ≡ 8 = omega arith in
+    let eight = rw (n, take-take 8 8 (drop p s) (omega arith)) at e in
+    eight ∙ eq_pointwise signature (take 8 (drop p s)) ∙ eq_swap signature (take 8 (drop p s))
 
 -- Fewer than eight bytes are no signature.
 pub signature_short : (s : List ℕ) → length s < 8 → has_signature s ≡ false
@@ -136,34 +126,3 @@ module _ (s : List ℕ) where
       go : (b : Bool) → signature_at s n ≡ b → Memᴰ (n + 64 * suc j) (signatures_from s (n + 64)) → Memᴰ (n + 64 * suc j) (signatures_from s n)
       go true q m = rw (signature_here s n l q) (Memᴰ.tail m)
       go false q m = rw (signature_not s n l q) m
-
-  -- What is found by tests at the places 64 * k.
-
-  passed : (p : ℕ) → signature_at s p ≡ false → signatures_from s p ≡ signatures_from s (p + 64)
-  passed p e = go (dec_le (p + 8) (length s))
-    where
-      go : Dec (p + 8 ≤ length s) → signatures_from s p ≡ signatures_from s (p + 64)
-      go (yes h) = signature_not s p h e
-      go (no g) = signature_end s p (omega arith) ∙ sym (signature_end s (p + 64) (omega arith))
-
-  all_passed : (d n : ℕ) → ((k : ℕ) → n ≤ k → k < n + d → signature_at s (64 * k) ≡ false) → signatures_from s (64 * n) ≡ signatures_from s (64 * (n + d))
-  all_passed zero n h = let e : n ≡ n + 0 = omega arith in ap (λ (k : ℕ). signatures_from s (64 * k)) e
-  all_passed (suc d) n h =
-      let e : 64 * n + 64 ≡ 64 * (n + 1) = omega arith in
-      let f : n + 1 + d ≡ n + suc d = omega arith in
-      passed (64 * n) (h n (omega arith) (omega arith)) ∙ ap (signatures_from s) e
-      ∙ all_passed d (n + 1) (λ k a b. h k (omega arith) (omega arith)) ∙ ap (λ (k : ℕ). signatures_from s (64 * k)) f
-
-  pub first_found : (n c : ℕ) → length s < 64 * c + 8 → (r : Option ℕ)
-      → MatchOption r ((k : ℕ) → n ≤ k → k < c → signature_at s (64 * k) ≡ false)
-      (λ i. (n ≤ i) × (i < c) × (signature_at s (64 * i) ≡ true) × ((k : ℕ) → n ≤ k → k < i → signature_at s (64 * k) ≡ false))
-      → MatchOption r (signatures_from s (64 * n) ≡ [])
-      (λ k. (64 * k < length s) × (signatures_from s (64 * n) ≡ (64 * k) ∷ signatures_from s (64 * (k + 1))))
-  first_found n c w None h = all_passed (c - n) n (λ k a b. h k a (omega arith)) ∙ signature_end s (64 * (n + (c - n))) (omega arith)
-  first_found n c w (Some i) (a, b, y, h) =
-      let e : n + (i - n) ≡ i = omega arith in
-      let f : 64 * i + 64 ≡ 64 * (i + 1) = omega arith in
-      let l = signature_long (64 * i) y in (
-        omega arith,
-        all_passed (i - n) n (λ k a b. h k a (omega arith)) ∙ rw (e, ← f) (signature_here s (64 * i) l y),
-      )

@@ -1,12 +1,17 @@
-use Rattle.std.proofs.Common.{◌≡◌, ◌+◌, ◌*◌, ◌/◌, length, true, false, rules, arith}
-use Rattle.std.proofs.lemmas.Iterator.{first_from_Range}
-use Rattle.fmap_signature.specs.Signatures.{signature_at}
-use Rattle.fmap_signature.proofs.Searching.{first_found}
+use Rattle.std.proofs.Common.{sym, ◌∙◌, arith}
+use Rattle.fmap_signature.proofs.Searching.{signature_here, signature_not, signature_end}
 use Rattle.fmap_signature.proofs.first_place.Goals as goal
 
-pub returns : goal.returns
-returns c =
+pub returns-then-signature_at : goal.returns-then-signature_at
+returns-then-signature_at c =
     let s = c.args.s.now in
-    first_found s c.args.from ((length s + 56) / 64) (omega arith) _
-    (first_from_Range _ _ _ _ (λ k. signature_at s (64 * k) ≡ true) (λ k. signature_at s (64 * k) ≡ false) c.find.ensures.ran
-    (λ k q h. search rules) (λ k q h. search rules))
+    let y = sym c.signature_at.ensures ∙ c.if-signature_at.true in
+    (omega arith, c.loop-p.invariant ∙ signature_here s c.loop-p.p (omega arith) y)
+
+pub loop-p-preserved : goal.loop-p-preserved
+loop-p-preserved c =
+    let s = c.args.s.now in
+    c.loop-p.invariant ∙ signature_not s c.loop-p.p (omega arith) (sym c.signature_at.ensures ∙ c.if-signature_at.false)
+
+pub returns : goal.returns
+returns c = c.loop-p.invariant ∙ signature_end c.args.s.now c.loop-p.p (omega arith)

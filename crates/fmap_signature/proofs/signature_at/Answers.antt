@@ -4,4 +4,4 @@ use Rattle.fmap_signature.proofs.signature_at.Goals as goal
 
 pub returns : goal.returns
 unfolding signature
-returns c = signature_eight c.args.s.now c.args.p (rw c.as_slice.ensures at c.eq.ensures)
+returns c = signature_eight c.args.s.now c.args.p c.starts_with.ensures.value
