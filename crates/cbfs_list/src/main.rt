@@ -3,12 +3,12 @@
 // The master header is read once, and the walk asked over its region, so that the program stands on few crates and is soon proved.
 #![tactic(auto)]
 
-ghost use Rattle.std.specs.Prelude.{◌≤◌, length};
+ghost use Rattle.std.specs.Prelude.{◌≤◌, IfOk, length};
 
 use cbfs_types::{Refusal, Region, Taken};
 use itoa::Buffer;
 use std::io;
-use std::io::Read;
+use std::io::{Read, Stdin};
 
 // The longest image that is listed.
 const LISTED_MAX: usize = 65536;
@@ -90,12 +90,21 @@ fn region(image: &[u8]) -> Result<Region, Refusal> {
     master_header::read(image)
 }
 
+// Reads until `buf` is full or the input ends. Answers how many bytes it put at the start of `buf`: the library's `copy` says nothing of that for an input of the
+// system, and so no more are answered than `buf` has.
+fn read_full(stdin: Stdin, buf: &mut [u8]) -> io::Result<usize>
+    ensures { IfOk result (λ n. n ≤ length buf.new) }
+{
+    let most = buf.len();
+    let n = io::copy(&mut stdin.take(most as u64), &mut &mut buf[..])?;
+    Ok(most.min(n as usize))
+}
+
 fn main(rt: HostRuntime) -> io::Result<()> {
     // One byte more than an image may have, to notice a longer one.
     let mut input = [0; LISTED_MAX + 1];
-    let limit = input.len() as u64;
-    let n = io::copy(&mut rt.stdin().take(limit), &mut &mut input[..])?;
-    let image = bytes_read::part(&input, 0, n as usize);
+    let n = read_full(rt.stdin(), &mut input)?;
+    let image = &input[..n];
     let mut page = Page::new();
     match region(image) {
         Ok(region) => page.put_listing(image, region),

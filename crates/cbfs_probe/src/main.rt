@@ -5,8 +5,8 @@
 mod input;
 mod output;
 
-use cbfs::{Directory, PayloadPlan, Refusal, Region, Segment, StagePlan, Taken};
-use fmap::{Area, FlashMap};
+use cbfs::{Refusal, Region, Segment, Taken};
+use fmap::Area;
 use input::{Case, Room};
 use output::Page;
 use std::io;
@@ -134,14 +134,17 @@ fn split_used<T, F: FnMut(&T) -> bool>(items: &[T], n: usize, is_used: F) -> (&[
     (used, rest.iter().any(is_used))
 }
 
-// Operation c: the strict check.
-fn strict_check(page: &mut Page, d: &Directory) {
+// Operation c: the strict check. This call and the next ones are made where their answers are printed: a function pays at entry for the memory of all that it
+// keeps, and `answer` is entered for every case.
+fn strict_check(page: &mut Page, image: &[u8]) -> Result<(), Refusal> {
+    let d = cbfs::strict_check(image)?;
     let (places, has_rest) = split_used(&d.places, d.count, |place| *place != 0);
     page.start(b"accepted", &[d.count, usize::from(has_rest)]);
     for place in places {
         page.number(*place);
     }
     page.end_line();
+    Ok(())
 }
 
 // An area's numbers, as its line has them.
@@ -150,7 +153,8 @@ fn area_numbers(a: &Area) -> [usize; 4] {
 }
 
 // Operation f: the flash map.
-fn flash_map(page: &mut Page, m: &FlashMap) {
+fn flash_map(page: &mut Page, image: &[u8]) -> Result<(), Refusal> {
+    let m = fmap::read(image)?;
     let (areas, has_rest) = split_used(&m.areas, m.count, |a| any_used(&area_numbers(a)));
     page.line(
         b"map",
@@ -164,10 +168,12 @@ fn flash_map(page: &mut Page, m: &FlashMap) {
     for a in areas {
         page.line(b"area", &area_numbers(a));
     }
+    Ok(())
 }
 
 // Operation s: the stage plan of a name.
-fn stage(page: &mut Page, p: StagePlan) {
+fn stage(page: &mut Page, image: &[u8], name: &[u8]) -> Result<(), Refusal> {
+    let p = cbfs::stage(image, name)?;
     page.line(
         b"stage",
         &[
@@ -179,6 +185,7 @@ fn stage(page: &mut Page, p: StagePlan) {
             p.memlen,
         ],
     );
+    Ok(())
 }
 
 // A segment's numbers, as its line has them.
@@ -194,12 +201,14 @@ fn segment_numbers(s: &Segment) -> [usize; 6] {
 }
 
 // Operation y: the payload plan of a name.
-fn payload(page: &mut Page, p: &PayloadPlan) {
+fn payload(page: &mut Page, image: &[u8], name: &[u8]) -> Result<(), Refusal> {
+    let p = cbfs::payload(image, name)?;
     let (segments, has_rest) = split_used(&p.segments, p.count, |s| any_used(&segment_numbers(s)));
     page.line(b"payload", &[p.count, usize::from(has_rest)]);
     for s in segments {
         page.line(b"segment", &segment_numbers(s));
     }
+    Ok(())
 }
 
 // Operations a, r and d: what an edit answered, and the whole image afterwards.
@@ -241,10 +250,10 @@ fn answer(page: &mut Page, op: u8, case: Case) -> Result<(), Failure> {
         b'z' => find(page, cbfs::guarded_find(image, name)?),
         b'u' => part(page, cbfs::name_at(image, number)),
         b'v' => part(page, cbfs::content_at(image, number)),
-        b'c' => strict_check(page, &cbfs::strict_check(image)?),
-        b's' => stage(page, cbfs::stage(image, name)?),
-        b'y' => payload(page, &cbfs::payload(image, name)?),
-        b'f' => flash_map(page, &fmap::read(image)?),
+        b'c' => strict_check(page, image)?,
+        b's' => stage(page, image, name)?,
+        b'y' => payload(page, image, name)?,
+        b'f' => flash_map(page, image)?,
         b'a' => {
             let kind = (number % (1 << 32)) as u32;
             edited(page, cbfs::add(image, name, kind, content), image);
