@@ -2,15 +2,34 @@
 use Prim.Native.Nat.{ℕ, zero, suc, ◌+◌, ◌-◌, ◌*◌, ◌/◌, ◌%◌, ◌^◌, ◌≤◌, ◌<◌}
 use mathlib.Core.Path.{◌≡◌, refl, sym, ◌∙◌}
 use mathlib.Core.List.{List, [], ◌∷◌, ◌++◌, append_assoc}
-use native.Mathlib.Nat.{div-add-mod', div-lt_iff_lt-mul, pow-suc, add-zero, zero-add, sub-zero, suc-add, add-mul, mul_assoc, mul_comm}
+use native.Mathlib.Nat.{div-add-mod', div-lt_iff_lt-mul, pow-suc, add-zero, zero-add, add-suc, sub-zero, suc-add, add-mul, mul_assoc, mul_comm}
 use native.Mathlib.Omega.{arith}
 use native.Mathlib.Decide.{dec_lt}
-use lib.ListN.{length, take, drop, get_or, length-append}
+use lib.ListN.{length, take, drop, get_or, length-append, get_or-eq_default}
 use lib.Seq.{get_or_at, get_or-take, get_or-drop}
 use Rattle.std.specs.Int.{sum_through, byte_worth}
 use Rattle.bytes_read.specs.Number.{be, le, be_bytes, le_bytes, swap_bytes}
 
+-- Past the end every number is 0.
+
+pub be_past : (w : ℕ) (s : List ℕ) (i : ℕ) → length s ≤ i → be w s i ≡ 0
+unfolding be
+be_past zero s i h = refl
+be_past (suc w) s i h = rw (be_past w s i h, get_or-eq_default s 0 {n = i + w} (omega arith))
+
+pub le_past : (w : ℕ) (s : List ℕ) (i : ℕ) → length s ≤ i → le w s i ≡ 0
+unfolding le
+le_past zero s i h = refl
+le_past (suc w) s i h = rw (le_past w s (i + 1) (omega arith), get_or-eq_default s 0 {n = i} h)
+
 -- A number of m + n bytes is made of one of m and one of n.
+pub be_split : (m n : ℕ) (s : List ℕ) (i : ℕ) → be (m + n) s i ≡ be m s i * 256 ^ n + be n s (i + m)
+unfolding be
+be_split m zero s i = rw add-zero (omega arith)
+be_split m (suc n) s i =
+    let e : i + (m + n) ≡ i + m + n = omega arith in
+    rw (add-suc m n, be_split m n s i, e, pow-suc 256 n) (omega arith)
+
 pub le_split : (m n : ℕ) (s : List ℕ) (i : ℕ) → le (m + n) s i ≡ le m s i + le n s (i + m) * 256 ^ m
 unfolding le
 le_split zero n s i = rw (zero-add n, add-zero i) (omega arith)

@@ -6,17 +6,18 @@ use Rattle.std.specs.List.{list_any}
 abbrev pub any : {A : Type 0} → (A → Bool) → List A → Bool
 any f xs = list_any f xs
 
-module _ {A : Type 0} where
+module _ {ℓ} {A : Type ℓ} where
   -- The elements of which the test holds.
   unfoldable pub filter : (A → Bool) → List A → List A
   filter f [] = []
   filter f (x ∷ xs) = let rest = filter f xs in cond (f x) (x ∷ rest) rest
 
+  -- The elements of l and, where they are fewer than w, as many x after them as are missing.
+  unfoldable pub padded : ℕ → A → List A → List A
+  padded w x l = l ++ replicate (w - length l) x
+
+module _ {A : Type 0} where
   -- The test holds of no element and a later one.
   unfoldable pub no_two : (A → A → Bool) → List A → Bool
   no_two t [] = true
   no_two t (x ∷ xs) = let rest = no_two t xs in not (any (t x) xs) && rest
-
-  -- The elements of l and, where they are fewer than w, as many x after them as are missing.
-  unfoldable pub padded : ℕ → A → List A → List A
-  padded w x l = l ++ replicate (w - length l) x

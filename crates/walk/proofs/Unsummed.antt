@@ -35,6 +35,10 @@ module _ (r : List ℕ) (a n : ℕ) (t : Taken) (s : step_answer r a (step (pick
   pub answered : (e : Entry) × (step (pick_skipping_sum true r a) r a n ≡ Some e) × (taken_of r a e ≡ t)
   answered = answer_some r a (step (pick_skipping_sum true r a) r a n) t s
 
+  pub inside : t.place + (t.header.offset + t.header.len) ≤ length r
+  inside = let (e, o, q) = answered in
+      subst (λ (x : Taken). x.place + (x.header.offset + x.header.len) ≤ length r) q (found_fits r a n e o).1
+
   -- By its sum.
 
   abbrev pub summed : Bool → Type 0
