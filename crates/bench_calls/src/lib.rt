@@ -58,7 +58,7 @@ fn count(guarded: bool, image: &[u8]) -> u64
 {
     match cbfs::region(image) {
         Ok(region) => count_steps(guarded, image, region),
-        Err(r) => encoded_refusal(r),
+        Err(refusal) => encoded_refusal(refusal),
     }
 }
 

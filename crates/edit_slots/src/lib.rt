@@ -104,6 +104,7 @@ pub fn slot_among(r: &[u8], ps: &[usize], name: &[u8]) -> Option<Slot>
 }
 
 // One of the components at the places ps bears the name.
+#[tactic(auto, using(crate::proofs::SlotsByPlaces::used_is))]
 pub fn name_used(r: &[u8], ps: &[usize], name: &[u8]) -> bool
     ensures value { result ≡ any (has_name r.now name.now) ps.now }
     ensures kept { (r.exit.now ≡ r.entry.now) × (ps.exit.now ≡ ps.entry.now) × (name.exit.now ≡ name.entry.now) }

@@ -2,7 +2,7 @@
 // Every function takes any page and any numbers: text that does not fit is not written, and not counted.
 #![tactic(auto)]
 
-ghost use Rattle.std.specs.Prelude.{◌≡◌, ◌<◌, ◌*◌, ◌%◌, length};
+ghost use Rattle.std.specs.Prelude.{◌≡◌, ◌<◌, ◌-◌, ◌*◌, ◌/◌, ◌%◌, ◌^◌, length};
 ghost use Rattle.bytes_read.specs.Bytes.{written};
 ghost use Rattle.program_text.specs.Page.{used_after};
 ghost use Rattle.program_text.specs.Digits.{digit_of, hex_pairs, hex_of, type_digits};
@@ -62,9 +62,17 @@ pub fn hex(page: &mut [u8], used: usize, s: &[u8]) -> usize
     used + n
 }
 
+// The k-th of the eight digits of a component's type, from the highest on.
+fn type_digit(kind: u32, k: usize) -> u8
+    requires { k < 8 }
+    ensures { result ≡ digit_of 65 (kind / 2 ^ (28 - 4 * k) % 16) }
+{
+    digit(kind >> (28 - 4 * k), b'A')
+}
+
 // A component's type as eight upper-case hexadecimal digits.
 pub fn type_digits(kind: u32) -> [u8; 8]
     ensures { result ≡ type_digits kind }
 {
-    array::from_fn(|k| digit(kind >> (28 - 4 * k), b'A'))
+    array::from_fn(|k| type_digit(kind, k))
 }
