@@ -90,8 +90,8 @@ fn region(image: &[u8]) -> Result<Region, Refusal> {
     master_header::read(image)
 }
 
-// Reads until `buf` is full or the input ends. Answers how many bytes it put at the start of `buf`: the library's `copy` says nothing of that for an input of the
-// system, and so no more are answered than `buf` has.
+// Reads until `buf` is full or the input ends. Answers how many bytes it put at the start of `buf`: the library's `copy` says nothing of that for an input of
+// the system, and so no more are answered than `buf` has.
 fn read_full(stdin: Stdin, buf: &mut [u8]) -> io::Result<usize>
     ensures { IfOk result (λ n. n ≤ length buf.new) }
 {
